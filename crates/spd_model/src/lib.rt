@@ -1,0 +1,39 @@
+//! The factored process as small trees, and the rules of the solver as definitions on plain tables.
+#![tactic(auto)]
+
+mod process;
+mod state;
+mod tree;
+
+pub use process::{Action, Model, Var};
+pub use state::State;
+pub use tree::{Kids, Tree};
+
+use sqlite_items::Items;
+
+/// The bytes of a name: of a variable, a value, an action or a decision diagram.
+pub type Name = Items<u8>;
+
+/// A piece of printed text, in bytes.
+pub type Text = Items<u8>;
+
+/// A word of the command line, in bytes.
+pub type Word = Items<u8>;
+
+/// Why a run of value iteration ended.
+#[derive(Clone, Copy, PartialEq, Eq, Debug)]
+pub enum Why {
+    /// The stop rule holds at the turn that was reached.
+    Done,
+    /// No turn up to the turn limit meets the stop rule.
+    Limit,
+}
+
+/// On which side of the value a Bellman residual lies.
+#[derive(Clone, Copy, PartialEq, Eq, Debug)]
+pub enum Side {
+    /// The greatest upper bound of an action's return lies above the value.
+    Above,
+    /// The greatest lower bound of an action's return lies below the value.
+    Below,
+}
