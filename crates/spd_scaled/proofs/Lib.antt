@@ -1,0 +1,4 @@
+pub mod Ring
+pub mod DivisionLaws
+mod TowardZero
+pub mod UnitsLaws
