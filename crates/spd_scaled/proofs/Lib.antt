@@ -2,3 +2,4 @@ pub mod Ring
 pub mod DivisionLaws
 mod TowardZero
 pub mod UnitsLaws
+mod Rows
