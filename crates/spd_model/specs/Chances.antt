@@ -1,5 +1,5 @@
 -- Probabilities and rewards of a process, and when it is valid.
-use Rattle.std.specs.Prelude.{ℕ, zero, suc, ◌*◌, ◌^◌, ◌<◌, ◌≤◌, ◌≡◌, not, nat_le, List, [], ◌∷◌, length, map, flat_map, Contains, ℤ, pos, ◌-ℤ◌, ◌*ℤ◌, ◌≤ℤ◌, unsigned_abs, slice_index, slice_get, slice_set, Option, Some, None, find}
+use Rattle.std.specs.Prelude.{ℕ, suc, ◌*◌, ◌^◌, ◌<◌, ◌≤◌, ◌≡◌, not, nat_le, List, [], ◌∷◌, length, map, flat_map, Contains, ℤ, pos, ◌-ℤ◌, ◌*ℤ◌, ◌≤ℤ◌, unsigned_abs, slice_index, slice_get, slice_set, Option, Some, None, find}
 use Rattle.std.specs.List.{enumerate_from}
 use Rattle.std.specs.Ordering.{int_eq}
 use Rattle.spd_scaled.specs.Scaled.{floor_div}

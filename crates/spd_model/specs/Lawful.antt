@@ -1,5 +1,5 @@
 -- What every model keeps: the limits, and that its names, numbers and trees fit together.
-use Rattle.std.specs.Prelude.{ℕ, ◌+◌, ◌-◌, ◌%◌, ◌^◌, ◌<◌, ◌≤◌, ◌≡◌, ◌≢◌, Bool, true, false, IsTrue, List, [], ◌∷◌, length, map, ℤ, pos, ◌≤ℤ◌, unsigned_abs, slice_index, slice_index_or, sum_by, All, AllPairs}
+use Rattle.std.specs.Prelude.{ℕ, ◌-◌, ◌%◌, ◌^◌, ◌<◌, ◌≤◌, ◌≡◌, ◌≢◌, true, false, IsTrue, List, [], length, map, pos, ◌≤ℤ◌, unsigned_abs, slice_index, slice_index_or, sum_by, All, AllPairs}
 use Rattle.spd_model.specs.declared.tree.Tree.{Tree}
 use Rattle.spd_model.specs.declared.process.Var.{Var}
 use Rattle.spd_model.specs.declared.process.Action.{Action}

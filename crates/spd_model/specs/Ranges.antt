@@ -1,5 +1,5 @@
 -- Merging of ranges: values whose joint range stays within the span become one.
-use Rattle.std.specs.Prelude.{ℕ, ◌++◌, Bool, true, false, ◌&&◌, ◌||◌, if◌then◌else◌, List, [], ◌∷◌, fold, map, ℤ, pos, ◌+ℤ◌, int_le, int_lt}
+use Rattle.std.specs.Prelude.{◌++◌, Bool, true, false, ◌&&◌, ◌||◌, if◌then◌else◌, List, [], ◌∷◌, fold, map, ℤ, pos, ◌+ℤ◌, int_le, int_lt}
 use Rattle.std.specs.Int.{int_max}
 use Rattle.std.specs.List.{list_any}
 use Rattle.std.specs.Ordering.{int_eq}

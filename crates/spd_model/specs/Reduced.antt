@@ -1,5 +1,5 @@
 -- The reduced decision diagram of a function of states, and the list of its nodes.
-use Rattle.std.specs.Prelude.{ℕ, zero, suc, ◌++◌, Bool, true, false, ◌&&◌, ◌==◌, if◌then◌else◌, List, [], ◌∷◌, map, position, unwrap_or}
+use Rattle.std.specs.Prelude.{ℕ, suc, ◌++◌, Bool, true, false, ◌&&◌, ◌==◌, if◌then◌else◌, List, [], ◌∷◌, map, position, unwrap_or}
 use Rattle.std.specs.List.{list_any, list_all}
 use Rattle.spd_model.specs.Numbers.{numbers_below}
 

@@ -1,5 +1,5 @@
 -- The text of a result.
-use Rattle.std.specs.Prelude.{ℕ, Bool, ◌++◌, ◌==◌, List, [], ◌∷◌, length, map, flat_map, codes, decimal, ℤ, pos, slice_index, slice_get, Option, Some, None, zip}
+use Rattle.std.specs.Prelude.{ℕ, Bool, ◌++◌, ◌==◌, List, [], ◌∷◌, length, map, flat_map, codes, decimal, ℤ, slice_get, Some, None, zip}
 use Rattle.std.specs.List.{join_with_byte, enumerate_from}
 use Rattle.std.specs.Ordering.{int_eq}
 use Rattle.spd_scaled.specs.Units.{units_text}
@@ -8,11 +8,10 @@ use Rattle.spd_model.specs.declared.Why.TheVariants.{Done, Limit}
 use Rattle.spd_model.specs.declared.Side.{Side}
 use Rattle.spd_model.specs.declared.Side.TheVariants.{Above, Below}
 use Rattle.spd_model.specs.declared.process.Var.{Var}
-use Rattle.spd_model.specs.declared.process.Action.{Action}
 use Rattle.spd_model.specs.Process.{Process}
 use Rattle.spd_model.specs.States.{sizes, at}
 use Rattle.spd_model.specs.Backup.{policy_of}
-use Rattle.spd_model.specs.Turns.{residual_of, Place, place_of, error_of, Stop, stop_of}
+use Rattle.spd_model.specs.Turns.{residual_of, Place, place_of, error_of, stop_of}
 use Rattle.spd_model.specs.Reduced.{Diagram, leaf, branch, reduced, nodes_of, node_numbers}
 
 -- words parted by one space, and LF

@@ -1,5 +1,5 @@
 -- What trees come to: the value of a tree at a state, its written parts, its nesting.
-use Rattle.std.specs.Prelude.{ℕ, zero, suc, ◌+◌, max, ◌++◌, Bool, true, false, if◌then◌else◌, List, [], ◌∷◌, length, fold, flat_map, ℤ, pos, slice_index, slice_index_or}
+use Rattle.std.specs.Prelude.{ℕ, ◌+◌, max, ◌++◌, Bool, if◌then◌else◌, List, [], ◌∷◌, length, fold, flat_map, ℤ, pos, slice_index, slice_index_or}
 use Rattle.spd_model.specs.declared.tree.Tree.{Tree, Leaf, Named, Branch', Row_of-Tree, end_of-Tree, more_of-Tree}
 use Rattle.spd_model.specs.Process.{Process}
 
