@@ -46,16 +46,18 @@ pub record IsTree (m : Process) (tree : Tree) : Type 0 where
 
 -- a table of probabilities of variable i
 pub record IsTable (m : Process) (i : ℕ) (tree : Tree) : Type 0 where
-  pub fits : All (Fits m) (parts_of m tree)
-  pub nests : nesting_of m tree ≤ 300
+  pub form : IsTree m tree
   pub table : All (FitsTable i) (parts_of m tree)
+
+-- a part of a reward or of a cost
+pub record IsReward (m : Process) (tree : Tree) : Type 0 where
+  pub form : IsTree m tree
+  pub reward : All FitsReward (parts_of m tree)
 
 -- the parts of a reward or of a cost
 pub record AreRewards (m : Process) (trees : List Tree) : Type 0 where
   pub few : length trees ≤ 2097152
-  pub fits : All (λ tree. All (Fits m) (parts_of m tree)) trees
-  pub nests : All (λ tree. nesting_of m tree ≤ 300) trees
-  pub rewards : All (λ tree. All FitsReward (parts_of m tree)) trees
+  pub each : All (IsReward m) trees
 
 -- an action: its name, one table for each variable, the parts of its cost
 pub record IsAction (m : Process) (a : Action) : Type 0 where
