@@ -113,22 +113,6 @@ pub *ℤ_cancel : (x y d : ℤ) → pos 0 <ℤ d → x *ℤ d ≡ y *ℤ d → x
     let high = *ℤ_cancel_≤ℤ y x d p (omega (arith, ints)) in
     omega (arith, ints)
 
--- a weight p of at least 0 keeps a magnitude: |x| ≤ c gives |p · x| ≤ p · c
-pub weighted_at_least : (p x c : ℤ) → pos 0 ≤ℤ p → neg_ℤ c ≤ℤ x → neg_ℤ (p *ℤ c) ≤ℤ (p *ℤ x)
-weighted_at_least p x c h k = let low = *ℤ_mono_right p (neg_ℤ c) x h k in rw (← *ℤ-neg_ℤ p c) low
-
-pub weighted_at_most : (p x c : ℤ) → pos 0 ≤ℤ p → x ≤ℤ c → (p *ℤ x) ≤ℤ (p *ℤ c)
-weighted_at_most p x c h k = *ℤ_mono_right p x c h k
-
--- the step of a weighted sum: one more weight p, one more value x with |x| ≤ c
-pub weighted_sum_at_least : (sum weight p x c : ℤ) → neg_ℤ (weight *ℤ c) ≤ℤ sum → pos 0 ≤ℤ p → neg_ℤ c ≤ℤ x → neg_ℤ ((weight +ℤ p) *ℤ c) ≤ℤ (sum +ℤ p *ℤ x)
-weighted_sum_at_least sum weight p x c h k l =
-    let more = weighted_at_least p x c k l in omega (arith, ints, +ℤ-*ℤ weight p c)
-
-pub weighted_sum_at_most : (sum weight p x c : ℤ) → sum ≤ℤ (weight *ℤ c) → pos 0 ≤ℤ p → x ≤ℤ c → (sum +ℤ p *ℤ x) ≤ℤ ((weight +ℤ p) *ℤ c)
-weighted_sum_at_most sum weight p x c h k l =
-    let more = weighted_at_most p x c k l in omega (arith, ints, +ℤ-*ℤ weight p c)
-
 -- ---- order, and the tests of it
 
 pub ≤ℤ_trans : (x y z : ℤ) → x ≤ℤ y → y ≤ℤ z → x ≤ℤ z
