@@ -2,12 +2,11 @@
 --
 -- `simp ring (omega (arith, ints))` proves what is linear in products: the set `ring` multiplies out, and `omega`
 -- adds up. At a hypothesis: `let h' = simp ring at h in ..`. Where nothing is left to rewrite `simp` is refused.
-use Rattle.std.proofs.Common.{◌≡◌, ℕ, ◌+◌, ◌*◌, ◌<◌, ◌≤◌, ℤ, pos, negsuc, neg_ℤ, ◌+ℤ◌, ◌-ℤ◌, ◌*ℤ◌, ◌≤ℤ◌, ◌<ℤ◌, Bool, true, false, int_lt, int_le, rules, arith, ap, sym, ◌∙◌}
+use Rattle.std.proofs.Common.{◌≡◌, ℕ, ◌*◌, ℤ, pos, negsuc, neg_ℤ, ◌+ℤ◌, ◌-ℤ◌, ◌*ℤ◌, ◌≤ℤ◌, ◌<ℤ◌, true, false, int_lt, int_le, rules, arith, ap, sym, ◌∙◌}
 use Rattle.std.proofs.lemmas.Int.{ints, by_lt_z}
 use Rattle.std.proofs.lemmas.Bool.Decides.{Decides-int_eq}
 use Rattle.std.specs.Ordering.{int_eq}
 use borrow.Author.Differences.{up, down, sum_is_lem, neg_is, product_is}
-use native.Mathlib.Nat.{mul-le-mul_right}
 pub use Rattle.std.proofs.Math.IntN.{*ℤ_comm, zero-*ℤ, *ℤ-zero}
 
 -- ---- products multiply out

@@ -1,5 +1,5 @@
 -- The code's quotient and remainder, which round toward zero, beside the floor and the ceiling.
-use Rattle.std.proofs.Common.{◌≡◌, ℕ, zero, suc, ◌+◌, ◌*◌, ◌/◌, ◌%◌, ◌<◌, ◌≤◌, ℤ, pos, negsuc, neg_ℤ, ◌+ℤ◌, ◌-ℤ◌, ◌*ℤ◌, ◌≤ℤ◌, ◌<ℤ◌, arith, ap, sym, subst, ◌∙◌, int_div, int_rem, unsigned_abs, FitsSigned}
+use Rattle.std.proofs.Common.{◌≡◌, ℕ, zero, suc, ◌/◌, ◌%◌, ◌<◌, ◌≤◌, ℤ, pos, negsuc, neg_ℤ, ◌+ℤ◌, ◌-ℤ◌, ◌*ℤ◌, ◌≤ℤ◌, ◌<ℤ◌, arith, sym, subst, int_div, int_rem, unsigned_abs, FitsSigned}
 use Rattle.std.proofs.lemmas.Int.{ints, quot-rem, rem_below}
 use native.Mathlib.Nat.{div-add-mod', div-le_self, mul-le-mul_left}
 use Rattle.spd_scaled.proofs.Ring.{+ℤ-*ℤ, -ℤ-*ℤ}

@@ -1,4 +1,4 @@
-use Rattle.std.proofs.Common.{◌≡◌, pos, ◌<ℤ◌, ℤ, ◌+ℤ◌, ◌-ℤ◌, ◌*ℤ◌, ◌≤ℤ◌, FitsSigned, arith, ◌∙◌, sym, subst, int_div, int_rem}
+use Rattle.std.proofs.Common.{pos, ◌<ℤ◌, ◌+ℤ◌, arith, ◌∙◌, int_div, int_rem}
 use Rattle.std.proofs.lemmas.Int.{ints, quot_is, rem_is, quot_fits, to_z-of_z}
 use mir.Syntax.{w128}
 use Rattle.spd_scaled.proofs.TowardZero.{ceil_div_from_quot, ceil_div_from_quot_more, quot_more_fits, at_least_from, last_below_from, within_from_ceil}

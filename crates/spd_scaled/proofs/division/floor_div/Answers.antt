@@ -1,4 +1,4 @@
-use Rattle.std.proofs.Common.{◌≡◌, pos, ◌<ℤ◌, ℤ, ◌+ℤ◌, ◌-ℤ◌, ◌*ℤ◌, ◌≤ℤ◌, FitsSigned, arith, ◌∙◌, sym, subst, int_div, int_rem}
+use Rattle.std.proofs.Common.{pos, ◌-ℤ◌, FitsSigned, arith, ◌∙◌, sym, subst, int_div}
 use Rattle.std.proofs.lemmas.Int.{ints, quot_is, rem_is, quot_fits, to_z-of_z}
 use Rattle.spd_scaled.proofs.TowardZero.{floor_div_from_quot, floor_div_from_quot_less, floor_div_fits, at_most_from, next_above_from, within_from_floor}
 use Rattle.spd_scaled.proofs.division.floor_div.Goals as goal
