@@ -45,3 +45,10 @@ unsigned_abs-le n (negsuc x) h = omega (arith, ints)
 pub fits_within : (w : Width) (c x : ℤ) → c <ℤ pos (2 ^ hbits w) → IsWithin c x → FitsSigned w x
 fits_within w c (pos x) h k = fits_signed_from_abs w (pos x) (omega (arith, ints))
 fits_within w c (negsuc x) h k = fits_signed_from_abs w (negsuc x) (omega (arith, ints))
+
+pub unsigned_abs-fits : (w : Width) (x : ℤ) → FitsSigned w x → unsigned_abs x ≤ 2 ^ hbits w
+unsigned_abs-fits w (pos x) h = omega (arith, h.sfits)
+unsigned_abs-fits w (negsuc x) h = omega (arith, h.sfits)
+
+pub IsWithin-from_fits : (w : Width) (x : ℤ) → FitsSigned w x → IsWithin (pos (2 ^ hbits w)) x
+IsWithin-from_fits w x h = IsWithin-from_abs (2 ^ hbits w) x (unsigned_abs-fits w x h)

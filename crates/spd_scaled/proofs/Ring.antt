@@ -1,8 +1,10 @@
 -- The laws of products of whole numbers, which std's `arith` and `ints` lack.
 --
 -- `simp ring (omega (arith, ints))` proves what is linear in products: the set `ring` multiplies out, and `omega`
--- adds up. At a hypothesis: `let h' = simp ring at h in ..`. Where nothing is left to rewrite `simp` is refused.
-use Rattle.std.proofs.Common.{◌≡◌, ℕ, ◌*◌, ℤ, pos, negsuc, neg_ℤ, ◌+ℤ◌, ◌-ℤ◌, ◌*ℤ◌, ◌≤ℤ◌, ◌<ℤ◌, true, false, int_lt, int_le, rules, arith, ap, sym, ◌∙◌}
+-- adds up. At a hypothesis: `let h' = simp ring at h in ..`. Where nothing is left to rewrite `simp` is refused, so
+-- leave that call out. State such a fact over variables of ℤ with premises as `pos 0 ≤ℤ x`: `pos a *ℤ pos b` computes
+-- to `pos (a * b)`, which the set doesn't read.
+use Rattle.std.proofs.Common.{◌≡◌, ◌≢◌, ℕ, ◌*◌, ℤ, pos, negsuc, neg_ℤ, ◌+ℤ◌, ◌-ℤ◌, ◌*ℤ◌, ◌≤ℤ◌, ◌<ℤ◌, true, false, int_lt, int_le, rules, arith, ap, sym, ◌∙◌}
 use Rattle.std.proofs.lemmas.Int.{ints, by_lt_z}
 use Rattle.std.proofs.lemmas.Bool.Decides.{Decides-int_eq}
 use Rattle.std.specs.Ordering.{int_eq}
@@ -126,11 +128,29 @@ int_lt-true x y h = grind (arith, ints)
 pub int_lt-false : (x y : ℤ) → int_lt x y ≡ false → y ≤ℤ x
 int_lt-false x y h = grind (arith, ints)
 
+pub int_lt-holds : (x y : ℤ) → x <ℤ y → int_lt x y ≡ true
+int_lt-holds x y h = grind (arith, ints)
+
+pub int_lt-fails : (x y : ℤ) → y ≤ℤ x → int_lt x y ≡ false
+int_lt-fails x y h = grind (arith, ints)
+
 pub int_le-true : (x y : ℤ) → int_le x y ≡ true → x ≤ℤ y
 int_le-true x y h = grind (arith, ints)
 
 pub int_le-false : (x y : ℤ) → int_le x y ≡ false → y <ℤ x
 int_le-false x y h = grind (arith, ints)
 
+pub int_le-holds : (x y : ℤ) → x ≤ℤ y → int_le x y ≡ true
+int_le-holds x y h = grind (arith, ints)
+
+pub int_le-fails : (x y : ℤ) → y <ℤ x → int_le x y ≡ false
+int_le-fails x y h = grind (arith, ints)
+
 pub int_eq-true : (x y : ℤ) → int_eq x y ≡ true → x ≡ y
 int_eq-true x y h = search (rules, Decides-int_eq)
+
+pub int_eq-false : (x y : ℤ) → int_eq x y ≡ false → x ≢ y
+int_eq-false x y h = search (rules, Decides-int_eq)
+
+pub int_eq-holds : (x y : ℤ) → x ≡ y → int_eq x y ≡ true
+int_eq-holds x y h = search (rules, Decides-int_eq)

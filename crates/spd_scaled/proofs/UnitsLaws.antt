@@ -63,8 +63,6 @@ length-sign_text-le (negsuc n) = omega arith
 
 pub length-units_text : (places : ℕ) (n : ℤ) → length (units_text places n) ≡ length (sign_text n) + length (decimal (unsigned_abs n / 10 ^ places)) + 1 + places
 length-units_text places n =
-    let whole = decimal (unsigned_abs n / 10 ^ places) in
-    let digits = last_digits places (unsigned_abs n) in
     simp length-append (omega (arith, length-last_digits places (unsigned_abs n)))
 
 -- the text of any number of 128 bits fits

@@ -55,7 +55,7 @@ fn put_places(buf: &mut [u8], at: usize, n: u128, places: u8) -> usize
 
 /// Writes `n` units of `10^-places` at the front of `buf`, and answers the length of the text: `-` for
 /// a negative number, the whole part without leading zeros, a point, and exactly `places` digits.
-/// What stands behind the text is left open.
+/// Values, rewards and costs have 9 places, probabilities 12. What stands behind the text is left open.
 pub fn put_units(n: i128, places: u8, buf: &mut [u8; 64]) -> usize
     requires { (places ≡ 9) ⊎ (places ≡ 12) }
     ensures end { result ≡ length (units_text places n) }
