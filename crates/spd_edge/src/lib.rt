@@ -4,6 +4,7 @@
 #![tactic(auto)]
 
 mod in_memory;
+mod names;
 mod outside;
 mod whole;
 
