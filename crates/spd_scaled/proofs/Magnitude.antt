@@ -1,6 +1,7 @@
 -- Bounds on magnitudes: of sums, of weighted sums, and what fits a width.
-use Rattle.std.proofs.Common.{ℕ, ◌^◌, ◌≤◌, ℤ, pos, negsuc, neg_ℤ, ◌+ℤ◌, ◌*ℤ◌, ◌≤ℤ◌, ◌<ℤ◌, unsigned_abs, FitsSigned, arith}
-use Rattle.std.proofs.lemmas.Int.{ints, fits_signed_from_abs}
+use Rattle.std.proofs.Common.{ℕ, ◌^◌, ◌≤◌, ℤ, pos, negsuc, neg_ℤ, ◌+ℤ◌, ◌*ℤ◌, ◌*◌, ◌≤ℤ◌, ◌<ℤ◌, unsigned_abs, FitsSigned, arith}
+use Rattle.std.proofs.lemmas.Int.{ints, fits_signed_from_abs, unsigned_abs-mul}
+use native.Mathlib.Nat.{mul-le-mul}
 use mir.Syntax.{Width}
 use mir.Val.{hbits}
 use Rattle.spd_scaled.proofs.Ring.{+ℤ-*ℤ, *ℤ-neg_ℤ, *ℤ_mono_right}
@@ -40,6 +41,16 @@ IsWithin-from_abs n (negsuc x) h = record { low = omega (arith, ints); high = om
 pub unsigned_abs-le : (n : ℕ) (x : ℤ) → IsWithin (pos n) x → unsigned_abs x ≤ n
 unsigned_abs-le n (pos x) h = omega (arith, ints)
 unsigned_abs-le n (negsuc x) h = omega (arith, ints)
+
+-- the magnitude of a product
+pub IsWithin-product : (b c x y : ℤ) → IsWithin b x → IsWithin c y → IsWithin (b *ℤ c) (x *ℤ y)
+IsWithin-product (pos b) (pos c) x y h k =
+    let first = unsigned_abs-le b x h in
+    let second = unsigned_abs-le c y k in
+    let both = mul-le-mul first second in
+    IsWithin-from_abs (b * c) (x *ℤ y) (rw (unsigned_abs-mul x y) both)
+IsWithin-product (negsuc b) c x y h k = absurd (IsWithin_nonnegative (negsuc b) x h).le
+IsWithin-product b (negsuc c) x y h k = absurd (IsWithin_nonnegative (negsuc c) y k).le
 
 -- what is within a number that fits a width fits it too
 pub fits_within : (w : Width) (c x : ℤ) → c <ℤ pos (2 ^ hbits w) → IsWithin c x → FitsSigned w x
