@@ -43,7 +43,7 @@ TookFront-after a b c pieces k d h first next =
     let rest = joined (drop (suc k) pieces) in
     let whole = joined-split pieces k d h in
     let count : length before + next.0 ≤ length (joined pieces) =
-        rw whole (omega (arith, next.1, length-append before (piece ++ rest), length-append piece rest)) in
+    rw whole (omega (arith, next.1, length-append before (piece ++ rest), length-append piece rest)) in
     let front : take (length before + next.0) (joined pieces) ≡ before ++ take next.0 piece =
-        ap (take (length before + next.0)) whole ∙ take-append-add before (piece ++ rest) next.0 ∙ ap (λ t. before ++ t) (take-append-le next.0 piece rest next.1) in
+    ap (take (length before + next.0)) whole ∙ take-append-add before (piece ++ rest) next.0 ∙ ap (λ t. before ++ t) (take-append-le next.0 piece rest next.1) in
     (length before + next.0, count, subst (λ t. Took a t c) (sym front) (Took-trans a b c before (take next.0 piece) first next.2))

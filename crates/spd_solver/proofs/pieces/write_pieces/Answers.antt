@@ -10,6 +10,8 @@ returns-in_err-write_all_of-clause-front g c =
 
 pub loop-piece-preserved : goal.loop-piece-preserved
 loop-piece-preserved g c =
-    let wrote = c.in_ok-write_all_of.ensures in
-    (Took-more _ _ _ c.args.pieces.now c.loop-piece.piece-index _ c.loop-piece-test.true c.loop-piece.invariant.0 wrote.all,
-    wrote.ok ∙ c.loop-piece.invariant.1, c.write_all_of.ensures.named ∙ c.loop-piece.invariant.2)
+    let wrote = c.in_ok-write_all_of.ensures in (
+      Took-more _ _ _ c.args.pieces.now c.loop-piece.piece-index _ c.loop-piece-test.true c.loop-piece.invariant.0 wrote.all,
+      wrote.ok ∙ c.loop-piece.invariant.1,
+      c.write_all_of.ensures.named ∙ c.loop-piece.invariant.2,
+    )
