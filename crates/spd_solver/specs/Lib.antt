@@ -1,0 +1,2 @@
+pub mod SmallToken
+pub mod SmallSeen

@@ -1,0 +1,3 @@
+//! The reader of the small form of a model file: one variable, tables without cost.
+
+mod lexer;
