@@ -1,1 +1,2 @@
 pub mod SmallTokens
+pub mod SmallNumbers

@@ -1,2 +1,5 @@
 pub mod SmallToken
 pub mod SmallSeen
+pub mod SmallSyntax
+pub mod Small
+pub mod SmallReading
