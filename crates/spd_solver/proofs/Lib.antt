@@ -1,2 +1,3 @@
 pub mod SmallTokens
 pub mod SmallNumbers
+pub mod SmallTrees

@@ -19,11 +19,15 @@ infixl 10 ◌>>=◌
 abbrev pub ◌>>=◌ : {A B : Type 0} → Option A → (A → Option B) → Option B
 o >>= f = option_and_then f o
 
+-- Reading refuses, unless memory ran out.
+abbrev pub Fails : {Y : Type 0} → Unread → Option Y → Type 0
+Fails Refused read = read ≡ None
+Fails Memory read = Unit {0}
+
 -- What a function returned, seen by view, is what reading gives, unless memory ran out.
 abbrev pub Gives : {X Y : Type 0} → (X → Y) → Result X Unread → Option Y → Type 0
 Gives view (Ok x) read = read ≡ Some (view x)
-Gives view (Err Refused) read = read ≡ None
-Gives view (Err Memory) read = Unit {0}
+Gives view (Err e) read = Fails e read
 
 -- ---- single tokens
 
