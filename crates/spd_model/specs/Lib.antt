@@ -1,2 +1,12 @@
+pub mod Names
 pub mod Process
+pub mod Trees
 pub mod Lawful
+pub mod Numbers
+pub mod States
+pub mod Chances
+pub mod Backup
+pub mod Ranges
+pub mod Turns
+pub mod Reduced
+pub mod ResultText
