@@ -3,7 +3,9 @@
 
 mod file;
 mod pieces;
+mod small;
 mod status;
 mod words;
 
+pub use file::FILE_LIMIT;
 pub use status::{Status, number, write_message};
