@@ -100,9 +100,9 @@ branch_at tree var tokens = do
 -- a tree is put in the place of its value, which is to be free
 unfoldable pub filled : List (Option Tree) → ℕ → Tree → Option (List (Option Tree))
 filled slots v tree = elim (slice_get slots v) [
-      | None ↦ None
-      | Some slot ↦ elim slot [ None ↦ Some (slice_set slots v (Some tree)) | Some other ↦ None ]
-    ]
+  | None ↦ None
+  | Some slot ↦ elim slot [ None ↦ Some (slice_set slots v (Some tree)) | Some other ↦ None ]
+]
 
 -- so many branches
 unfoldable pub branches_at : (List Token → Option (Tree × List Token)) → Var → ℕ → List (Option Tree) → List Token → Option (List (Option Tree) × List Token)

@@ -3,7 +3,7 @@ ghost use Rattle.std.specs.Prelude.{◌≡◌, ◌≤◌, OnOk, OnErr};
 ghost use Rattle.spd_edge.specs.Counts.{Rose};
 ghost use Rattle.spd_edge.specs.Told.{Took};
 ghost use Rattle.spd_solver.specs.Pieces.{TookFront};
-ghost use Rattle.spd_solver.specs.Message.{number_of, sum_message, message_of};
+ghost use Rattle.spd_solver.specs.Message.{number_of, sum_message, range_message, message_of};
 
 use crate::pieces::write_pieces;
 use itoa::Buffer;
@@ -41,6 +41,12 @@ pub enum Status {
         state: Text,
         sum: i128,
     },
+    /// The reward of this action at this state passes 10^9, in units of 10^-9.
+    Range {
+        action: Text,
+        state: Text,
+        value: i128,
+    },
     /// The result was written, and no turn up to the turn limit meets the stop rule. The residual is in units of 10^-9.
     TurnLimit {
         residual: i128,
@@ -62,6 +68,7 @@ pub fn number(status: &Status) -> u8
         Status::TooLong { .. } => 4,
         Status::Refused => 5,
         Status::Sum { .. } => 6,
+        Status::Range { .. } => 7,
         Status::TurnLimit { .. } => 8,
         Status::WriteFault => 12,
         Status::Memory => 14,
@@ -94,6 +101,34 @@ fn write_sum<'a, K: Sink>(
             state,
             b" is ",
             sum,
+            b"\n",
+        ],
+    )
+}
+
+/// Writes the message of a reward that passes its limit, by the texts of its parts.
+fn write_range<'a, K: Sink>(
+    k: &mut K,
+    action: &'a [u8],
+    state: &'a [u8],
+    value: &'a [u8],
+) -> Result<(), Failed>
+    ensures whole { OnOk result (Took (K.taken k.old) (range_message action.now state.now value.now) (K.taken k.new)) }
+    ensures ok { OnOk result (K.faults k.new ≡ K.faults k.old) }
+    ensures front { OnErr result (TookFront (K.taken k.old) (range_message action.now state.now value.now) (K.taken k.new)) }
+    ensures failed { OnErr result (Rose (K.faults k.old) (K.faults k.new)) }
+    ensures never_falls { K.faults k.old ≤ K.faults k.new }
+    ensures named { K.name k.new ≡ K.name k.old }
+{
+    write_pieces(
+        k,
+        &[
+            b"reward of action ",
+            action,
+            b" at ",
+            state,
+            b" is ",
+            value,
             b"\n",
         ],
     )
@@ -138,6 +173,15 @@ pub fn write_message<K: Sink>(status: &Status, k: &mut K) -> Result<(), Failed>
                 state.as_slice(),
                 &digits[..len],
             )
+        }
+        Status::Range {
+            action,
+            state,
+            value,
+        } => {
+            let mut digits = [0; 64];
+            let len = put_units(*value, 9, &mut digits);
+            write_range(k, action.as_slice(), state.as_slice(), &digits[..len])
         }
         Status::TurnLimit { residual } => {
             let mut digits = [0; 64];

@@ -5,7 +5,7 @@ use Rattle.spd_scaled.specs.Units.{units_text}
 use Rattle.std.specs.List.{concat}
 use Rattle.spd_edge.specs.Told.{Took}
 use Rattle.spd_solver.specs.Pieces.{TookFront}
-use Rattle.spd_solver.specs.Message.{newline, sum_message, message_of}
+use Rattle.spd_solver.specs.Message.{newline, sum_message, range_message, message_of}
 use Rattle.spd_solver.proofs.status.write_message.Goals as goal
 
 pub returns-in-Usage-clause-whole : goal.returns-in-Usage-clause-whole
@@ -42,6 +42,22 @@ returns-in-Sum-clause-front g c =
     let message : sum_message c.as_slice-in-Sum.result.now c.as_slice-in-Sum-2.result.now c.as_slice-in-Sum-3.result.now _ ≡ message_of c.args.status.now =
     (λ i. sum_message (c.as_slice-in-Sum.ensures i) (c.as_slice-in-Sum-2.ensures i) (c.as_slice-in-Sum-3.ensures i) ((c.put_units-len.ensures.text ∙ ap (units_text 12) (to_z-of_z w128 c.in-Sum.sum fits)) i)) ∙ sym (ap message_of c.in-Sum.is) in
     subst (λ (t : List ℕ). OnErr c.write_sum.result (TookFront (g.K.Sink.taken c.args.k.now) t (g.K.Sink.taken c.write_sum.new.k))) message c.write_sum.ensures.front
+
+pub returns-in-Range-clause-whole : goal.returns-in-Range-clause-whole
+returns-in-Range-clause-whole g c =
+    let fits : FitsSigned w128 c.in-Range.value = search rules in
+    let message : range_message c.as_slice-in-Range.result.now c.as_slice-in-Range-2.result.now _ ≡ message_of c.args.status.now =
+    (λ i. range_message (c.as_slice-in-Range.ensures i) (c.as_slice-in-Range-2.ensures i)
+    ((c.put_units-len-in-Range.ensures.text ∙ ap (units_text 9) (to_z-of_z w128 c.in-Range.value fits)) i)) ∙ sym (ap message_of c.in-Range.is) in
+    subst (λ (t : List ℕ). OnOk c.write_range.result (Took (g.K.Sink.taken c.args.k.now) t (g.K.Sink.taken c.write_range.new.k))) message c.write_range.ensures.whole
+
+pub returns-in-Range-clause-front : goal.returns-in-Range-clause-front
+returns-in-Range-clause-front g c =
+    let fits : FitsSigned w128 c.in-Range.value = search rules in
+    let message : range_message c.as_slice-in-Range.result.now c.as_slice-in-Range-2.result.now _ ≡ message_of c.args.status.now =
+    (λ i. range_message (c.as_slice-in-Range.ensures i) (c.as_slice-in-Range-2.ensures i)
+    ((c.put_units-len-in-Range.ensures.text ∙ ap (units_text 9) (to_z-of_z w128 c.in-Range.value fits)) i)) ∙ sym (ap message_of c.in-Range.is) in
+    subst (λ (t : List ℕ). OnErr c.write_range.result (TookFront (g.K.Sink.taken c.args.k.now) t (g.K.Sink.taken c.write_range.new.k))) message c.write_range.ensures.front
 
 pub returns-in-TurnLimit-clause-whole : goal.returns-in-TurnLimit-clause-whole
 returns-in-TurnLimit-clause-whole g c =
