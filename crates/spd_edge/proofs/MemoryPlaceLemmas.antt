@@ -45,6 +45,18 @@ find-set_alike p f (x ∷ xs) (suc i) d y same_test same_view =
       | false ↦ find-set_alike p f xs i d y same_test same_view
     ]
 
+-- the input of a name that was put already has this name
+pub input_under-renamed : (puts : List Put) (name : List ℕ) (at : ℕ) (put : Put) → position (λ each. bytes_eq each.input.name name) puts ≡ Some at → put ≡ slice_index_or puts at put → Some (record put.input { name = name }) ≡ input_under puts name
+input_under-renamed puts name at put found there =
+    let first = position_is (λ each. bytes_eq each.input.name name) puts at found in
+    let was : put_under puts name ≡ Some put =
+      find_at (λ each. bytes_eq each.input.name name) puts
+      ∙ ap (slice_get puts) (sym first.0)
+      ∙ slice_get-get_or puts at put first.1
+      ∙ ap (λ each. Some each) (sym there) in
+    let named : put.input.name ≡ name = (bytes_eq-Decides put.input.name name).0 (find_passes (λ each. bytes_eq each.input.name name) puts put was) in
+    ap (λ n. Some (record put.input { name = n })) (sym named) ∙ ap (λ each. option_map (λ p. p.input) each) (sym was)
+
 module _ (before : Inputs) (name : List ℕ) (more at : ℕ) (put counted : Put)
   (found : position (λ each. bytes_eq each.input.name name) before.puts ≡ Some at)
   (there : put ≡ slice_index_or before.puts at put)
@@ -57,7 +69,7 @@ module _ (before : Inputs) (name : List ℕ) (more at : ℕ) (put counted : Put)
   abbrev now : Inputs
   now = record before { puts = slice_set before.puts at counted }
 
-  was : put_under before.puts name ≡ Some put
+  pub was : put_under before.puts name ≡ Some put
   was =
       let first = position_is (λ each. bytes_eq each.input.name name) before.puts at found in
       find_at (λ each. bytes_eq each.input.name name) before.puts

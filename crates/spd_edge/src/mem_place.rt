@@ -1,5 +1,5 @@
 //! A place in memory, for tests.
-ghost use Rattle.std.specs.Prelude.{◌≡◌, ◌≢◌, ℕ, ◌+◌, ◌-◌, ◌^◌, ◌<◌, ◌≤◌, ◌⊎◌, [], ◌∷◌, List, ◌++◌, length, min, position, slice_get, option_and_then, Option, Some, None, true, false, IfOk, IfSome, OnOk, OnErr, All};
+ghost use Rattle.std.specs.Prelude.{◌≡◌, ◌≢◌, ℕ, ◌+◌, ◌-◌, ◌^◌, ◌<◌, ◌≤◌, ◌⊎◌, [], ◌∷◌, List, ◌++◌, length, min, position, slice_get, option_and_then, Option, Some, None, true, false, IsSome, IfOk, IfSome, OnOk, OnErr, All};
 ghost use Rattle.std.specs.Str.{bytes_eq};
 ghost use Rattle.spd_edge.specs.Counts.{Rose};
 ghost use Rattle.spd_edge.specs.Names.{NoneFalls, SameButFor, is_among, without};
@@ -7,7 +7,7 @@ ghost use Rattle.spd_edge.specs.MemoryPlace.{Counts, Inputs, put_under, input_un
 
 use crate::in_memory::MemIn;
 use crate::names::Names;
-use crate::outside::{Memory, Open};
+use crate::outside::{Memory, Open, Place};
 use std::alloc::Global;
 use std::marker::Model;
 
@@ -76,6 +76,7 @@ impl MemPlace {
     /// Counts more faults of a name.
     fn count_faults(&mut self, name: &[u8], more: u64)
         ensures counts { Counts self.old self.new name.now more }
+        ensures shared { put_under self.old.puts name.now ≡ None → self.new ≡ record self.old { faults = min (self.old.faults + more) (2 ^ 64 - 1) } }
         ensures never_falls { NoneFalls (faults_of self.old) (faults_of self.new) }
         ensures count { (q : List ℕ) → faults_of self.new q < 2 ^ 64 }
     {
@@ -86,5 +87,71 @@ impl MemPlace {
             }
             None => self.faults = self.faults.saturating_add(more),
         }
+    }
+}
+
+#[tactic(auto, using(crate::proofs::NamesLemmas::names))]
+impl Place for MemPlace {
+    type In = MemIn;
+
+    ghost faults_in = { faults_of };
+
+    ghost asked_in = { λ place. is_among place.asked };
+
+    ghost is_open_in = { λ place. is_among place.opened };
+
+    ghost holds_in = { λ place. bytes_under place.puts };
+
+    fn open_in(&mut self, name: &[u8]) -> Result<MemIn, Open>
+        requires { is_among self.old.asked name.now ≡ false }
+        ensures input { IfOk result (λ input. Some input ≡ input_under self.old.puts name.now) }
+        ensures ok { OnOk result (self.new ≡ record self.old { asked = self.old.asked ++ name.now ∷ []; opened = self.old.opened ++ name.now ∷ [] }) }
+        ensures failed { result ≡ Err Open.Failed → put_under self.old.puts name.now ≡ None }
+        ensures counted { result ≡ Err Open.Failed → self.new ≡ record self.old { asked = self.old.asked ++ name.now ∷ []; faults = min (self.old.faults + 1) (2 ^ 64 - 1) } }
+        ensures memory { result ≡ Err Open.Memory → (self.new ≡ self.old) ⊎ (self.new ≡ record self.old { asked = self.old.asked ++ name.now ∷ [] }) }
+
+        // The trait's clauses, but those that follow from these.
+        ensures opened { OnOk result (is_among self.new.opened name.now ≡ true) }
+        ensures other_open { SameButFor (is_among self.old.opened) (is_among self.new.opened) name.now }
+        ensures asked { result ≢ Err Open.Memory → is_among self.new.asked name.now ≡ true }
+        ensures other_asked { SameButFor (is_among self.old.asked) (is_among self.new.asked) name.now }
+        ensures named { IfOk result (λ input. input.name ≡ name.now) }
+        ensures no_fault_yet { IfOk result (λ input. input.faults ≡ 0) }
+        ensures never_falls { NoneFalls (faults_of self.old) (faults_of self.new) }
+        ensures count { (q : List ℕ) → faults_of self.new q < 2 ^ 64 }
+    {
+        self.asked.push(name)?;
+        match find_put(&self.puts, name) {
+            Some(at) => {
+                let input = self.puts[at].input.renamed(name)?;
+                self.opened.push(name)?;
+                Ok(input)
+            }
+            None => {
+                self.count_faults(name, 1);
+                Err(Open::Failed)
+            }
+        }
+    }
+
+    fn close_in(&mut self, name: &[u8], input: MemIn)
+        requires named { input.name ≡ name.now }
+        requires is_open { is_among self.old.opened name.now ≡ true }
+        ensures opened { self.new.opened ≡ without self.old.opened name.now }
+        ensures asked { self.new.asked ≡ self.old.asked }
+        ensures inputs { input_under self.new.puts ≡ input_under self.old.puts }
+        ensures holds { bytes_under self.new.puts ≡ bytes_under self.old.puts }
+        ensures added { faults_of self.new name.now ≡ min (faults_of self.old name.now + input.faults) (2 ^ 64 - 1) }
+        ensures others { (q : List ℕ) → q ≢ name.now → IsSome (put_under self.old.puts name.now) → faults_of self.new q ≡ faults_of self.old q }
+
+        // The trait's clauses, but those that follow from these.
+        ensures closed { is_among self.new.opened name.now ≡ false }
+        ensures other_open { SameButFor (is_among self.old.opened) (is_among self.new.opened) name.now }
+        ensures no_fault { input.faults ≡ 0 → faults_of self.new ≡ faults_of self.old }
+        ensures never_falls { NoneFalls (faults_of self.old) (faults_of self.new) }
+        ensures count { (q : List ℕ) → faults_of self.new q < 2 ^ 64 }
+    {
+        self.opened.remove(name);
+        self.count_faults(name, input.faults());
     }
 }

@@ -1,4 +1,4 @@
-use Rattle.std.proofs.Common.{◌≡◌, ◌≤◌, ◌<◌, ◌^◌, ℕ, List, refl, rules, arith, sym, ap, subst, ◌∙◌, Some, None}
+use Rattle.std.proofs.Common.{◌≡◌, ◌≤◌, ◌<◌, ◌^◌, ℕ, List, refl, rules, arith, sym, ap, subst, ◌∙◌, Some, None, true≢false, is_some}
 use Rattle.std.specs.Prelude.{position, All, slice_set}
 use Rattle.std.specs.Str.{bytes_eq}
 use Rattle.std.proofs.lemmas.Grind.{common_steps}
@@ -6,8 +6,8 @@ use Rattle.std.proofs.lemmas.List.Elements.{All-set}
 use Rattle.std.proofs.lemmas.List.Quantifiers.{position-Some}
 use Rattle.spd_edge.specs.declared.mem_place.Put.{Put}
 use Rattle.spd_edge.specs.Names.{NoneFalls}
-use Rattle.spd_edge.specs.MemoryPlace.{Counts, Inputs, IsPut, faults_of}
-use Rattle.spd_edge.proofs.MemoryPlaceLemmas.{counts_own, counts_shared, faults_of-bound, Counts-never_falls}
+use Rattle.spd_edge.specs.MemoryPlace.{Counts, Inputs, IsPut, faults_of, put_under}
+use Rattle.spd_edge.proofs.MemoryPlaceLemmas.{was, counts_own, counts_shared, faults_of-bound, Counts-never_falls}
 use Rattle.spd_edge.proofs.mem_place.MemPlace.count_faults.Goals as goal
 
 module _ (c : goal.After-self-1) where
@@ -57,3 +57,8 @@ pub returns-in-None-clause-count : goal.returns-in-None-clause-count
 returns-in-None-clause-count c =
     let held : Inputs = record { puts = c.self.inside.puts.items; asked = c.self.inside.asked; opened = c.self.inside.opened; faults = c.saturating_add-self-inside.result } in
     faults_of-bound held c.self.invariant c.saturating_add-self-inside.type_inv
+
+pub returns-in-Some-clause-shared : goal.returns-in-Some-clause-shared
+returns-in-Some-clause-shared c none =
+    let there = was (before c) c.args.name.now c.args.more c.in-Some.at c.index_mut-put.result.now (counted c) (found c) c.index_mut-put.ensures.value refl c.saturating_add-put.ensures in
+    absurd (true≢false (ap is_some (sym there ∙ ap (λ (b : Inputs). put_under b.puts c.args.name.now) c.self.view_is ∙ none)))
