@@ -6,3 +6,4 @@ pub mod SmallSeen
 pub mod SmallSyntax
 pub mod Small
 pub mod SmallReading
+pub mod Run
