@@ -51,10 +51,10 @@ is_among-removed names name =
 pub is_among-remove : (names : List (List ℕ)) (name : List ℕ) → SameButFor (is_among names) (is_among (without names name)) name
 is_among-remove names name other differ =
     any-filter_same
-      (λ each. bytes_eq each other)
-      (λ each. not (bytes_eq each name))
-      true
-      (λ each same. ap not (bytes_eq-other each name (λ is. differ (sym ((bytes_eq-Decides each other).0 same) ∙ is))))
-      names
+    (λ each. bytes_eq each other)
+    (λ each. not (bytes_eq each name))
+    true
+    (λ each same. ap not (bytes_eq-other each name (λ is. differ (sym ((bytes_eq-Decides each other).0 same) ∙ is))))
+    names
 
 pub ruleset names = (is_among-pushed, is_among-push, is_among-removed, is_among-remove)
