@@ -1,5 +1,5 @@
 -- What a place in memory holds, and the counts of its names.
-use Rattle.std.proofs.Common.{◌≡◌, ◌≢◌, ℕ, ◌+◌, ◌-◌, ◌^◌, ◌<◌, ◌≤◌, min, List, [], ◌∷◌, ◌++◌, length, Bool, true, false, true≢false, cond, Option, None, Some, IsSome, All, refl, sym, ap, ◌∙◌, subst, rules, arith, zero, suc}
+use Rattle.std.proofs.Common.{◌≡◌, ◌≢◌, ℕ, ◌+◌, ◌-◌, ◌^◌, ◌<◌, ◌≤◌, min, List, [], ◌∷◌, length, Bool, true, false, true≢false, cond, None, Some, IsSome, All, refl, sym, ap, ◌∙◌, subst, arith, zero, suc}
 use Rattle.std.specs.Prelude.{find, position, option_map, slice_set, slice_index_or, slice_get}
 use Rattle.std.specs.Option.{option_map_or}
 use Rattle.std.specs.List.{position_or_len}
@@ -11,7 +11,6 @@ use Rattle.std.proofs.lemmas.List.Folds.{find-set, find_past, find_at}
 use Rattle.spd_edge.specs.declared.mem_place.Put.{Put}
 use Rattle.spd_edge.specs.MemoryPlace.{Inputs, Counts, IsPut, put_under, input_under, faults_of}
 use Rattle.spd_edge.specs.Names.{NoneFalls}
-use Rattle.spd_edge.specs.Memory.{Input}
 use Rattle.spd_edge.proofs.NamesLemmas.{bytes_eq-other}
 
 -- what is found passes the test

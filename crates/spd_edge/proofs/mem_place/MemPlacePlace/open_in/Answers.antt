@@ -1,7 +1,6 @@
-use Rattle.std.proofs.Common.{◌≡◌, ◌+◌, ◌-◌, ◌^◌, min, ap, sym, ◌∙◌, ℕ, List, ◌++◌, ◌∷◌, [], Option, Some, None, rules, refl}
+use Rattle.std.proofs.Common.{◌≡◌, ◌+◌, ◌-◌, ◌^◌, min, ap, sym, ◌∙◌, ℕ, List, ◌++◌, ◌∷◌, [], Option, Some, None, rules}
 use Rattle.std.specs.Prelude.{position}
 use Rattle.std.specs.Str.{bytes_eq}
-use Rattle.std.proofs.lemmas.Grind.{common_steps}
 use Rattle.spd_edge.specs.declared.mem_place.Put.{Put}
 use Rattle.spd_edge.specs.Memory.{Input}
 use Rattle.spd_edge.specs.MemoryPlace.{Inputs, input_under, put_under}
