@@ -1,6 +1,6 @@
 //! Sources and sinks in memory, for tests. Their calls are numbered from 0, and which numbers fail
 //! is said when they are made.
-ghost use Rattle.std.specs.Prelude.{◌≡◌, ℕ, ◌+◌, ◌-◌, ◌^◌, ◌<◌, ◌≤◌, [], ◌++◌, length, drop, vec_len, vec_capacity, ◌↔◌, Option, Some, Result, Ok, Err, IsTrue, IsErr, IfOk, OnOk, OnErr};
+ghost use Rattle.std.specs.Prelude.{◌≡◌, ◌+◌, ◌-◌, ◌^◌, ◌<◌, ◌≤◌, [], ◌++◌, length, drop, vec_len, vec_capacity, ◌↔◌, Some, IsTrue, IsErr, IfOk, OnOk, OnErr};
 ghost use Rattle.spd_edge.specs.Memory.{Input, Output, is_failing, number_after, bytes_given, after_giving, after_no_read, is_refusing, bytes_taken, after_taking, after_no_write};
 
 use crate::outside::{Failed, Memory, Opened, Sink, Source};

@@ -1,7 +1,6 @@
 //! A place in memory, for tests.
-ghost use Rattle.std.specs.Prelude.{◌≡◌, ◌≢◌, ℕ, ◌+◌, ◌-◌, ◌^◌, ◌<◌, ◌≤◌, ◌⊎◌, [], ◌∷◌, List, ◌++◌, length, min, position, slice_get, option_and_then, Option, Some, None, true, false, IsSome, IfOk, IfSome, OnOk, OnErr, All};
+ghost use Rattle.std.specs.Prelude.{◌≡◌, ◌≢◌, ℕ, ◌+◌, ◌-◌, ◌^◌, ◌<◌, ◌⊎◌, [], ◌∷◌, List, ◌++◌, min, position, Some, None, true, false, IsSome, IfOk, OnOk, OnErr, All};
 ghost use Rattle.std.specs.Str.{bytes_eq};
-ghost use Rattle.spd_edge.specs.Counts.{Rose};
 ghost use Rattle.spd_edge.specs.Names.{NoneFalls, SameButFor, is_among, without};
 ghost use Rattle.spd_edge.specs.MemoryPlace.{Counts, Inputs, put_under, input_under, bytes_under, faults_of, IsPut};
 
