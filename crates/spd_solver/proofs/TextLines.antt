@@ -1,5 +1,6 @@
 -- Lines of words, as a text grows by them.
 use Rattle.std.proofs.Common.{◌≡◌, ℕ, ◌+◌, ◌<◌, ◌≤◌, List, [], ◌∷◌, ◌++◌, length, map, take, get_or, Bor, refl, ap, sym, ◌∙◌, arith, append_assoc, length-append, take_all}
+use Rattle.std.specs.Prelude.{Result, Ok, Err, OnOk, is_ok, if◌then◌else◌}
 use Rattle.std.specs.List.{join_with_byte, zip}
 use Rattle.std.proofs.lemmas.List.{take_more, map-append, get_or-map, append-nil, length-map, length-take-le}
 use Rattle.std.proofs.lemmas.Grind.{flat_map-append}
@@ -67,3 +68,18 @@ put_variables m s vars i all past same =
     let word = λ (x : Var × ℕ). (x.0.name ++ 61 ∷ []) ++ value_name x.0 x.1 in
     let count : length vars ≡ length m.vars = ap length all in
     take_all i (state_words m s) (omega (arith, length-map both word, length-zip m.vars s))
+
+-- a line of a word, of many words, and of two more, put piece by piece
+pub put_place_line : (at : List ℕ) (words : List (List ℕ)) (side action old t1 t2 t3 t4 : List ℕ) → t1 ≡ old ++ at → t2 ≡ t1 ++ spaced words → t3 ≡ t2 ++ 32 ∷ side → t4 ≡ t3 ++ 32 ∷ action
+    → t4 ++ 10 ∷ [] ≡ old ++ line ((at ∷ words) ++ side ∷ action ∷ [])
+put_place_line at words side action old t1 t2 t3 t4 e1 e2 e3 e4 =
+    rw (e4, e3, e2, e1, joined-spaced at (words ++ side ∷ action ∷ []), spaced-append words (side ∷ action ∷ []), append-nil (32 ∷ action))
+    (regroup old at (spaced words) (32 ∷ side) (32 ∷ action) (10 ∷ []))
+  where
+    regroup : (o a b c d e : List ℕ) → ((((o ++ a) ++ b) ++ c) ++ d) ++ e ≡ o ++ ((a ++ (b ++ (c ++ d))) ++ e)
+    regroup o a b c d e = simp append_assoc
+
+-- a line that is ended
+pub ended : {T E : Type 0} (r : Result T E) (before after text : List ℕ) → after ≡ (if is_ok r then before ++ 10 ∷ [] else before) → before ++ 10 ∷ [] ≡ text → OnOk r (after ≡ text)
+ended (Ok x) before after text e whole = e ∙ whole
+ended (Err x) before after text e whole = tt

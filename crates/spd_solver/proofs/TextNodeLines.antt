@@ -1,29 +1,29 @@
 -- The lines of nodes, as a text grows by them.
-use Rattle.std.proofs.Common.{◌≡◌, ℕ, suc, ◌+◌, ◌<◌, ◌≤◌, Bool, true, false, List, [], ◌∷◌, ◌++◌, length, map, take, get_or, refl, ap, sym, ◌∙◌, arith, append_assoc, decimal, fold, flat_map}
+use Rattle.std.proofs.Common.{◌≡◌, ℕ, suc, ◌+◌, ◌<◌, ◌≤◌, Bool, true, false, List, [], ◌∷◌, ◌++◌, length, map, take, get_or, refl, ap, sym, ◌∙◌, arith, append_assoc, decimal, codes, fold, flat_map}
 use Rattle.std.specs.List.{list_any, enumerate_from, position_or_len, AllWithin}
 use Rattle.std.specs.Bool.{if◌then◌else◌}
 use Rattle.std.proofs.lemmas.List.{take_more, map-append, append-nil, length-take-le}
 use Rattle.std.proofs.lemmas.List.Sums.{fold_more, position_or_len_is}
 use Rattle.std.proofs.lemmas.Grind.{flat_map-append}
-use Rattle.std.proofs.lemmas.Bool.{lt-ltb, le-ltb}
+use Rattle.std.proofs.lemmas.Bool.{lt-ltb, le-ltb, ne_eqb}
 use Rattle.spd_solver.specs.TextParts.{spaced}
-use Rattle.spd_solver.specs.TextNodes.{distinct, leaf_line, leaf_lines, number_among, numbers_among}
-use Rattle.spd_solver.proofs.TextLines.{spaced-append}
+use Rattle.spd_solver.specs.TextNodes.{distinct, leaf_line, leaf_lines, number_among, numbers_among, root_lines}
+use Rattle.spd_solver.proofs.TextLines.{spaced-append, joined-spaced}
 
 -- an entry that is among the leaves, and one that isn't
-pub distinct-kept : {X : Type 0} (same : X → X → Bool) (table : List X) (i : ℕ) (d : X) (leaves : List X) → i < length table → leaves ≡ distinct same (take i table)
-    → list_any (λ y. same y (get_or table i d)) leaves ≡ true → leaves ≡ distinct same (take (i + 1) table)
-distinct-kept {X} same table i d leaves within before there =
-    let more = fold_more (λ (kept : List X) (x : X). if list_any (λ y. same y x) kept then kept else kept ++ x ∷ []) [] table i d within in
-    sym (more ∙ rw (← before, there) refl)
+pub distinct-kept : {X : Type 0} (same : X → X → Bool) (table : List X) (i : ℕ) (x : X) (leaves : List X) → i < length table → x ≡ get_or table i x → leaves ≡ distinct same (take i table)
+    → list_any (λ y. same y x) leaves ≡ true → leaves ≡ distinct same (take (i + 1) table)
+distinct-kept {X} same table i x leaves within is before there =
+    let more = fold_more (λ (kept : List X) (x : X). if list_any (λ y. same y x) kept then kept else kept ++ x ∷ []) [] table i x within in
+    sym (more ∙ rw (← before, ← is, there) refl)
 
-pub distinct-new : {X : Type 0} (same : X → X → Bool) (table : List X) (i : ℕ) (d : X) (leaves new : List X) → i < length table → leaves ≡ distinct same (take i table)
-    → list_any (λ y. same y (get_or table i d)) leaves ≡ false → new ≡ leaves ++ get_or table i d ∷ [] → new ≡ distinct same (take (i + 1) table)
-distinct-new {X} same table i d leaves new within before absent after =
-    let more = fold_more (λ (kept : List X) (x : X). if list_any (λ y. same y x) kept then kept else kept ++ x ∷ []) [] table i d within in
-    after ∙ sym (more ∙ rw (← before, absent) refl)
+pub distinct-new : {X : Type 0} (same : X → X → Bool) (table : List X) (i : ℕ) (x : X) (leaves new : List X) → i < length table → x ≡ get_or table i x → leaves ≡ distinct same (take i table)
+    → list_any (λ y. same y x) leaves ≡ false → new ≡ leaves ++ x ∷ [] → new ≡ distinct same (take (i + 1) table)
+distinct-new {X} same table i x leaves new within is before absent after =
+    let more = fold_more (λ (kept : List X) (x : X). if list_any (λ y. same y x) kept then kept else kept ++ x ∷ []) [] table i x within in
+    after ∙ sym (more ∙ rw (← before, ← is, absent) refl)
 
-enumerate_from-append : {X : Type 0} (n : ℕ) (xs ys : List X) → enumerate_from n (xs ++ ys) ≡ enumerate_from n xs ++ enumerate_from (n + length xs) ys
+pub enumerate_from-append : {X : Type 0} (n : ℕ) (xs ys : List X) → enumerate_from n (xs ++ ys) ≡ enumerate_from n xs ++ enumerate_from (n + length xs) ys
 enumerate_from-append n [] ys = let e : n + 0 ≡ n = omega arith in rw e refl
 enumerate_from-append n (x ∷ xs) ys =
     let e : n + 1 + length xs ≡ n + suc (length xs) = omega arith in
@@ -53,9 +53,10 @@ numbers-more {X} same leaves table i d old before after within so_far last =
     ) (simp (append_assoc, append-nil))
 
 -- the number of an entry that equals the leaf at i and none before, and of one that equals none
-pub number-found : {X : Type 0} (same : X → X → Bool) (leaves : List X) (x : X) (i : ℕ) (d : X) → i < length leaves
-    → AllWithin (λ leaf. same x leaf ≡ false) leaves 0 i → same x (get_or leaves i d) ≡ true → i ≡ number_among same leaves x
-number-found {X} same leaves x i d within before here =
+pub number-found : {X : Type 0} (same : X → X → Bool) (leaves : List X) (x : X) (i : ℕ) (d : X) → i < length leaves → d ≡ get_or leaves i d
+    → AllWithin (λ leaf. same x leaf ≡ false) leaves 0 i → same x d ≡ true → i ≡ number_among same leaves x
+number-found {X} same leaves x i d within is before equal =
+    let here : same x (get_or leaves i d) ≡ true = rw (← is) equal in
     let place : position_or_len (same x) leaves ≡ i = position_or_len_is (same x) leaves i d (omega arith) (λ k below. before k d (omega arith) below) (λ _. here) in
     sym (rw place (rw (lt-ltb i (length leaves) within) refl))
 
@@ -64,3 +65,15 @@ pub number-missing : {X : Type 0} (same : X → X → Bool) (leaves : List X) (x
 number-missing {X} same leaves x i past before =
     let place : position_or_len (same x) leaves ≡ length leaves = position_or_len_is (same x) leaves (length leaves) x (omega arith) (λ k below. before k x (omega arith) (omega arith)) (λ h. absurd (omega arith)) in
     sym (rw place (rw (le-ltb (length leaves) (length leaves) (omega arith)) refl))
+
+-- the line of the branch, put piece by piece
+pub put_root_line : {X : Type 0} (same : X → X → Bool) (var : List ℕ) (leaves table : List X) (old t1 t2 t3 t4 : List ℕ) → (length leaves ≡ 1 → ⊥) → t1 ≡ old ++ decimal (length leaves)
+    → t2 ≡ t1 ++ 32 ∷ codes "branch" → t3 ≡ t2 ++ 32 ∷ var → t4 ≡ t3 ++ spaced (map decimal (numbers_among same leaves table))
+    → t4 ++ 10 ∷ [] ≡ old ++ root_lines same var leaves table
+put_root_line same var leaves table old t1 t2 t3 t4 many e1 e2 e3 e4 =
+    let numbers : List (List ℕ) = map decimal (numbers_among same leaves table) in
+    rw (e4, e3, e2, e1, ne_eqb (length leaves) 1 many, joined-spaced (decimal (length leaves)) (codes "branch" ∷ var ∷ numbers))
+    (regroup old (decimal (length leaves)) (32 ∷ codes "branch") (32 ∷ var) (spaced numbers) (10 ∷ []))
+  where
+    regroup : (o a b c d e : List ℕ) → ((((o ++ a) ++ b) ++ c) ++ d) ++ e ≡ o ++ ((a ++ (b ++ (c ++ d))) ++ e)
+    regroup o a b c d e = simp append_assoc
