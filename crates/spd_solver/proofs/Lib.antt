@@ -1,3 +1,4 @@
 pub mod TextLines
 pub mod TextNodeLines
 pub mod TextDiagrams
+pub mod TextTables
