@@ -2,3 +2,4 @@ pub mod TextLines
 pub mod TextNodeLines
 pub mod TextDiagrams
 pub mod TextTables
+pub mod TextWhole
