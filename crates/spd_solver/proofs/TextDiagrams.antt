@@ -1,6 +1,6 @@
 -- The reduced diagram of a table over the values of one variable, and its text.
-use Rattle.std.proofs.Common.{◌≡◌, ℕ, zero, suc, ◌+◌, ◌*◌, ◌<◌, ◌≤◌, Bool, true, false, not, ◌||◌, ◌&&◌, ◌==◌, List, [], ◌∷◌, ◌++◌, length, map, take, get_or, refl, ap, sym, ◌∙◌, arith, append_assoc, decimal, fold, flat_map, position, unwrap_or, codes, length-append, take_all}
-use Rattle.std.specs.List.{list_any, list_all, enumerate_from, position_or_len, prefix_len}
+use Rattle.std.proofs.Common.{◌≡◌, ℕ, zero, suc, ◌+◌, ◌*◌, ◌<◌, ◌≤◌, Bool, true, false, not, ◌&&◌, ◌==◌, List, [], ◌∷◌, ◌++◌, length, map, take, get_or, refl, ap, sym, ◌∙◌, arith, append_assoc, decimal, fold, flat_map, unwrap_or, codes, length-append, take_all}
+use Rattle.std.specs.List.{list_any, list_all, enumerate_from, prefix_len}
 use Rattle.std.specs.Prelude.{Some, None, nat_lt, cond}
 use Rattle.std.specs.Bool.{if◌then◌else◌}
 use Rattle.std.proofs.lemmas.Bool.Decides.{nat_tests}
@@ -10,7 +10,7 @@ use Rattle.std.proofs.lemmas.List.{append-nil, length-map, map-append}
 use Rattle.std.proofs.lemmas.List.Folds.{prefix_len-append}
 use Rattle.std.proofs.lemmas.List.Sums.{prefix_len-le-length}
 use Rattle.std.proofs.lemmas.Grind.{flat_map-append}
-use Rattle.spd_model.specs.Reduced.{Diagram, leaf, branch, Subtrees, subtrees_of, is_equal, choice_of, reduced, with_node, nodes_of, nodes_after_all, node_number, node_numbers}
+use Rattle.spd_model.specs.Reduced.{Diagram, leaf, branch, Subtrees, subtrees_of, is_equal, choice_of, reduced, nodes_of, nodes_after_all, node_number, node_numbers}
 use Rattle.spd_model.specs.Numbers.{numbers_below}
 use Rattle.spd_model.specs.States.{state_count, rank}
 use Rattle.spd_model.specs.ResultText.{line, node_line, diagram_text}
@@ -85,7 +85,7 @@ number-leaf {X} same var ds leaves x =
     let p = λ (d : Diagram X). not (is_equal same (leaf x) d) in
     let count : length (map leaf leaves ++ branch var ds ∷ []) ≡ length leaves + 1 = omega (arith, length-append (map leaf leaves) (branch var ds ∷ []), length-map leaves (λ (y : X). leaf y)) in
     let place : prefix_len p (map leaf leaves ++ branch var ds ∷ []) ≡ cond (prefix_len (λ y. not (same x y)) leaves == length leaves) (length leaves + 1) (prefix_len (λ y. not (same x y)) leaves) =
-        prefix_len-append p (map leaf leaves) (branch var ds ∷ []) ∙ rw (prefix-leaves same x leaves, length-map leaves (λ (y : X). leaf y)) refl in
+    prefix_len-append p (map leaf leaves) (branch var ds ∷ []) ∙ rw (prefix-leaves same x leaves, length-map leaves (λ (y : X). leaf y)) refl in
     rw (count, place) (same_place (prefix_len (λ y. not (same x y)) leaves) (length leaves) (prefix_len-le-length (λ y. not (same x y)) leaves))
 
 numbers-leaves : {X : Type 0} (same : X → X → Bool) (var : ℕ) (ds : Subtrees X) (leaves xs : List X) → node_numbers same (map leaf leaves ++ branch var ds ∷ []) (subtrees_of (map leaf xs)) ≡ numbers_among same leaves xs
@@ -112,14 +112,14 @@ branch_text {X} same text name word leaves table nodes all =
     let last : 0 + length (map leaf leaves) ≡ length leaves = omega (arith, length-map leaves (λ (y : X). leaf y)) in
     let line_of = λ (n : ℕ × Diagram X). node_line same text name nodes n.0 n.1 in
     let lines : flat_map line_of (enumerate_from 0 nodes) ≡ leaf_lines text leaves ++ line_of (length leaves, root) =
-        ap (λ (ns : List (Diagram X)). flat_map line_of (enumerate_from 0 ns)) all
-        ∙ ap (flat_map line_of) (enumerate_from-append 0 (map leaf leaves) (root ∷ []))
-        ∙ flat_map-append line_of (enumerate_from 0 (map leaf leaves)) (enumerate_from (0 + length (map leaf leaves)) (root ∷ []))
-        ∙ ap (λ (t : List ℕ). t ++ flat_map line_of (enumerate_from (0 + length (map leaf leaves)) (root ∷ []))) (lines-leaves same text name nodes 0 leaves)
-        ∙ ap (λ (t : List ℕ). leaf_lines text leaves ++ t) (append-nil (line_of (0 + length (map leaf leaves), root)))
-        ∙ ap (λ (k : ℕ). leaf_lines text leaves ++ line_of (k, root)) last in
+    ap (λ (ns : List (Diagram X)). flat_map line_of (enumerate_from 0 ns)) all
+    ∙ ap (flat_map line_of) (enumerate_from-append 0 (map leaf leaves) (root ∷ []))
+    ∙ flat_map-append line_of (enumerate_from 0 (map leaf leaves)) (enumerate_from (0 + length (map leaf leaves)) (root ∷ []))
+    ∙ ap (λ (t : List ℕ). t ++ flat_map line_of (enumerate_from (0 + length (map leaf leaves)) (root ∷ []))) (lines-leaves same text name nodes 0 leaves)
+    ∙ ap (λ (t : List ℕ). leaf_lines text leaves ++ t) (append-nil (line_of (0 + length (map leaf leaves), root)))
+    ∙ ap (λ (k : ℕ). leaf_lines text leaves ++ line_of (k, root)) last in
     let numbers : node_numbers same nodes (subtrees_of (map leaf table)) ≡ numbers_among same leaves table =
-        ap (λ (ns : List (Diagram X)). node_numbers same ns (subtrees_of (map leaf table))) all ∙ numbers-leaves same 0 (subtrees_of (map leaf table)) leaves table in
+    ap (λ (ns : List (Diagram X)). node_numbers same ns (subtrees_of (map leaf table))) all ∙ numbers-leaves same 0 (subtrees_of (map leaf table)) leaves table in
     let heading = line (word ∷ decimal (length leaves + 1) ∷ []) in
     ap (λ (k : ℕ). line (word ∷ decimal k ∷ []) ++ flat_map line_of (enumerate_from 0 nodes)) count
     ∙ ap (λ (t : List ℕ). heading ++ t) lines

@@ -1,5 +1,5 @@
 -- Lines of words, as a text grows by them.
-use Rattle.std.proofs.Common.{◌≡◌, ℕ, ◌+◌, ◌<◌, ◌≤◌, List, [], ◌∷◌, ◌++◌, length, map, take, get_or, Bor, refl, ap, sym, ◌∙◌, arith, append_assoc, length-append, take_all}
+use Rattle.std.proofs.Common.{◌≡◌, ℕ, ◌+◌, ◌<◌, ◌≤◌, List, [], ◌∷◌, ◌++◌, length, take, get_or, Bor, refl, ap, sym, ◌∙◌, arith, append_assoc, take_all}
 use Rattle.std.specs.Prelude.{Result, Ok, Err, OnOk, is_ok, if◌then◌else◌}
 use Rattle.std.specs.List.{join_with_byte, zip}
 use Rattle.std.proofs.lemmas.List.{take_more, map-append, get_or-map, append-nil, length-map, length-take-le}
@@ -56,8 +56,8 @@ put_variable m s vars i v var old text new all within same is value before after
     let inside : i < length m.vars = rw (← all) within in
     let variable : get_or m.vars i var ≡ var = rw (← all) (sym is) in
     let here : get_or (state_words m s) i [] ≡ word (var, v) =
-        get_or-map word both i (var, 0) [] (omega arith)
-        ∙ rw (get_or-zip m.vars s i (var, 0) inside (omega arith), variable, value) refl in
+    get_or-map word both i (var, 0) [] (omega arith)
+    ∙ rw (get_or-zip m.vars s i (var, 0) inside (omega arith), variable, value) refl in
     let more = take_more (state_words m s) i [] (omega (arith, length-map both word)) in
     after ∙ rw (before, more, spaced-append (take i (state_words m s)) (get_or (state_words m s) i [] ∷ []), here) (simp (append_assoc, append-nil))
 

@@ -1,13 +1,13 @@
 -- The lines of nodes, as a text grows by them.
-use Rattle.std.proofs.Common.{◌≡◌, ℕ, suc, ◌+◌, ◌<◌, ◌≤◌, Bool, true, false, List, [], ◌∷◌, ◌++◌, length, map, take, get_or, refl, ap, sym, ◌∙◌, arith, append_assoc, decimal, codes, fold, flat_map}
+use Rattle.std.proofs.Common.{◌≡◌, ℕ, suc, ◌+◌, ◌<◌, ◌≤◌, Bool, true, false, List, [], ◌∷◌, ◌++◌, length, map, take, get_or, refl, ap, sym, ◌∙◌, arith, append_assoc, decimal, codes}
 use Rattle.std.specs.List.{list_any, enumerate_from, position_or_len, AllWithin}
 use Rattle.std.specs.Bool.{if◌then◌else◌}
 use Rattle.std.proofs.lemmas.List.{take_more, map-append, append-nil, length-take-le}
 use Rattle.std.proofs.lemmas.List.Sums.{fold_more, position_or_len_is}
 use Rattle.std.proofs.lemmas.Grind.{flat_map-append}
-use Rattle.std.proofs.lemmas.Bool.{lt-ltb, le-ltb, ne_eqb}
+use Rattle.std.proofs.lemmas.Bool.{lt-ltb, le-ltb}
 use Rattle.spd_solver.specs.TextParts.{spaced}
-use Rattle.spd_solver.specs.TextNodes.{distinct, leaf_line, leaf_lines, number_among, numbers_among, root_lines}
+use Rattle.spd_solver.specs.TextNodes.{distinct, leaf_line, leaf_lines, number_among, numbers_among, branch_line}
 use Rattle.spd_solver.proofs.TextLines.{spaced-append, joined-spaced}
 
 -- an entry that is among the leaves, and one that isn't
@@ -45,11 +45,11 @@ numbers-more {X} same leaves table i d old before after within so_far last =
     let number = λ (x : X). number_among same leaves x in
     last
     ∙ rw (
-    so_far,
-    take_more table i d within,
-    map-append number (take i table) (get_or table i d ∷ []),
-    map-append decimal (map number (take i table)) (number (get_or table i d) ∷ []),
-    spaced-append (map decimal (map number (take i table))) (decimal (number (get_or table i d)) ∷ [])
+      so_far,
+      take_more table i d within,
+      map-append number (take i table) (get_or table i d ∷ []),
+      map-append decimal (map number (take i table)) (number (get_or table i d) ∷ []),
+      spaced-append (map decimal (map number (take i table))) (decimal (number (get_or table i d)) ∷ []),
     ) (simp (append_assoc, append-nil))
 
 -- the number of an entry that equals the leaf at i and none before, and of one that equals none
@@ -67,12 +67,12 @@ number-missing {X} same leaves x i past before =
     sym (rw place (rw (le-ltb (length leaves) (length leaves) (omega arith)) refl))
 
 -- the line of the branch, put piece by piece
-pub put_root_line : {X : Type 0} (same : X → X → Bool) (var : List ℕ) (leaves table : List X) (old t1 t2 t3 t4 : List ℕ) → (length leaves ≡ 1 → ⊥) → t1 ≡ old ++ decimal (length leaves)
+pub put_branch_line : {X : Type 0} (same : X → X → Bool) (var : List ℕ) (leaves table : List X) (old t1 t2 t3 t4 : List ℕ) → t1 ≡ old ++ decimal (length leaves)
     → t2 ≡ t1 ++ 32 ∷ codes "branch" → t3 ≡ t2 ++ 32 ∷ var → t4 ≡ t3 ++ spaced (map decimal (numbers_among same leaves table))
-    → t4 ++ 10 ∷ [] ≡ old ++ root_lines same var leaves table
-put_root_line same var leaves table old t1 t2 t3 t4 many e1 e2 e3 e4 =
+    → t4 ++ 10 ∷ [] ≡ old ++ branch_line same var leaves table
+put_branch_line same var leaves table old t1 t2 t3 t4 e1 e2 e3 e4 =
     let numbers : List (List ℕ) = map decimal (numbers_among same leaves table) in
-    rw (e4, e3, e2, e1, ne_eqb (length leaves) 1 many, joined-spaced (decimal (length leaves)) (codes "branch" ∷ var ∷ numbers))
+    rw (e4, e3, e2, e1, joined-spaced (decimal (length leaves)) (codes "branch" ∷ var ∷ numbers))
     (regroup old (decimal (length leaves)) (32 ∷ codes "branch") (32 ∷ var) (spaced numbers) (10 ∷ []))
   where
     regroup : (o a b c d e : List ℕ) → ((((o ++ a) ++ b) ++ c) ++ d) ++ e ≡ o ++ ((a ++ (b ++ (c ++ d))) ++ e)

@@ -39,7 +39,7 @@ put_diagram {X} same text (Ok x) word var called table leaves shown seen count o
     let e1' : t1 ≡ old ++ heading (length entries) = e1 ∙ ap (λ n. old ++ heading n) (counted ∙ ap length (is_shown ∙ found)) in
     let e2' : t2 ≡ t1 ++ leaf_lines text entries = e2 ∙ ap (λ (ls : List X). t1 ++ leaf_lines text ls) (is_shown ∙ found) in
     let e3' : t3 ≡ t2 ++ root_lines same var entries table =
-        e3 ∙ ap (λ (name : List ℕ). t2 ++ root_lines same name seen table) is_called ∙ ap (λ (ls : List X). t2 ++ root_lines same var ls table) (is_seen ∙ found) in
+    e3 ∙ ap (λ (name : List ℕ). t2 ++ root_lines same name seen table) is_called ∙ ap (λ (ls : List X). t2 ++ root_lines same var ls table) (is_seen ∙ found) in
     e3' ∙ pieces old (heading (length entries)) (leaf_lines text entries) (root_lines same var entries table) t1 t2 e1' e2' ∙ ap (λ (t : List ℕ). old ++ t) (sym all)
   where
     pieces : (o a b c t1 t2 : List ℕ) → t1 ≡ o ++ a → t2 ≡ t1 ++ b → t2 ++ c ≡ o ++ ((a ++ b) ++ c)

@@ -1,5 +1,5 @@
 -- The text of a result's parts is the result text that the definitions name, where the parts are those of the definitions.
-use Rattle.std.proofs.Common.{◌≡◌, ℕ, zero, suc, ◌+◌, ◌*◌, ◌==◌, List, [], ◌∷◌, ◌++◌, length, map, flat_map, ap, sym, refl, ◌∙◌, ℤ, codes, decimal, arith, length-append}
+use Rattle.std.proofs.Common.{◌≡◌, ℕ, zero, suc, ◌*◌, ◌==◌, List, [], ◌∷◌, ◌++◌, length, map, flat_map, ap, refl, ◌∙◌, ℤ, codes, decimal, arith, length-append}
 use Rattle.std.proofs.lemmas.List.{length-map, append-nil}
 use Rattle.std.proofs.lemmas.Simd.{map-map}
 use Rattle.std.proofs.lemmas.List.Concat.{flat_map_single}
@@ -55,13 +55,13 @@ pub text_with-text_of : (m : Process) (why : Why) (turn : ℕ) (value : List ℤ
     → text_with m why turn value policy residual place error ≡ text_of m why turn (at (sizes m) value) residual
 text_with-text_of m why turn value policy residual place error one acts lies errs =
     let lines_before : List ℕ =
-        line (codes "spd result 1" ∷ [])
-        ++ line (codes "status" ∷ why_text why ∷ [])
-        ++ line (codes "turn" ∷ decimal turn ∷ [])
-        ++ line (codes "residual" ∷ units residual ∷ [])
-        ++ place_line m (place_of m (at (sizes m) value) residual)
-        ++ line (codes "error" ∷ units (error_of m residual) ∷ [])
-        ++ value_lines m value in
+    line (codes "spd result 1" ∷ [])
+    ++ line (codes "status" ∷ why_text why ∷ [])
+    ++ line (codes "turn" ∷ decimal turn ∷ [])
+    ++ line (codes "residual" ∷ units residual ∷ [])
+    ++ place_line m (place_of m (at (sizes m) value) residual)
+    ++ line (codes "error" ∷ units (error_of m residual) ∷ [])
+    ++ value_lines m value in
     let one_size : length (sizes m) ≡ 1 = length-map m.vars (λ (x : Var). length x.values) ∙ one in
     ap (λ (p : Place). text_with m why turn value policy residual p error) lies
     ∙ ap (λ (e : ℤ). text_with m why turn value policy residual (place_of m (at (sizes m) value) residual) e) errs

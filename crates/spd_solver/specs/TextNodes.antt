@@ -16,6 +16,7 @@ node_count leaves = if leaves == 1 then leaves else leaves + 1
 abbrev pub number_among : {X : Type 0} → (X → X → Bool) → List X → X → ℕ
 number_among same leaves x = unwrap_or (position (same x) leaves) 0
 
+-- the numbers of the leaves of a table's entries
 abbrev pub numbers_among : {X : Type 0} → (X → X → Bool) → List X → List X → List ℕ
 numbers_among same leaves table = map (number_among same leaves) table
 
@@ -26,8 +27,10 @@ leaf_line number text = line (decimal number ∷ codes "leaf" ∷ text ∷ [])
 abbrev pub leaf_lines : {X : Type 0} → (X → List ℕ) → List X → List ℕ
 leaf_lines text leaves = flat_map (λ n. leaf_line n.0 (text n.1)) (enumerate_from 0 leaves)
 
--- the line of the branch: its number comes after those of the leaves
+-- the line of the branch on a variable of this name: its number comes after those of the leaves
+abbrev pub branch_line : {X : Type 0} → (X → X → Bool) → List ℕ → List X → List X → List ℕ
+branch_line same var leaves table = line (decimal (length leaves) ∷ codes "branch" ∷ var ∷ map decimal (numbers_among same leaves table))
+
+-- the line of the branch, unless there is one leaf alone
 abbrev pub root_lines : {X : Type 0} → (X → X → Bool) → List ℕ → List X → List X → List ℕ
-root_lines same var leaves table =
-    if length leaves == 1 then []
-    else line (decimal (length leaves) ∷ codes "branch" ∷ var ∷ map decimal (numbers_among same leaves table))
+root_lines same var leaves table = if length leaves == 1 then [] else branch_line same var leaves table

@@ -10,11 +10,10 @@ mod line;
 mod names;
 mod nodes;
 
+use itoa::Buffer;
 use line::{put_line, put_units_line, put_word};
 use names::{action_name, side_word, value_name, why_word};
 use nodes::{put_policy, put_value};
-
-use itoa::Buffer;
 use spd_model::{Model, Side, State, Var, Why};
 use std::alloc::{AllocError, Global};
 
@@ -44,12 +43,10 @@ pub(crate) fn result_text_of(
     requires value { length outcome.now.value.now ≡ state_count (sizes model.now) }
     requires policy { length outcome.now.policy.now ≡ state_count (sizes model.now) }
     requires place { length outcome.now.place.now ≡ length model.now.vars }
-    ensures {
-        let place : Place = record { state = outcome.now.place.now; side = outcome.now.side; action = outcome.now.action } in
+    ensures { let place : Place = record { state = outcome.now.place.now; side = outcome.now.side; action = outcome.now.action } in
         IfOk result (λ text. text.items
-            ≡ text_with model.now outcome.now.why outcome.now.turn outcome.now.value.now outcome.now.policy.now
-            outcome.now.residual place outcome.now.error)
-    }
+        ≡ text_with model.now outcome.now.why outcome.now.turn outcome.now.value.now outcome.now.policy.now
+        outcome.now.residual place outcome.now.error) }
 {
     let mut text = Vec::with_capacity(alloc, 1024)?;
     put_head(&mut text, outcome)?;
@@ -71,17 +68,18 @@ fn put_head(text: &mut Vec<u8>, outcome: &Outcome<'_>) -> Result<(), AllocError>
 {
     put_line(text, &[b"spd result 1"])?;
     put_line(text, &[b"status", why_word(outcome.why)])?;
-    put_line(text, &[b"turn", Buffer::new().format(outcome.turn).as_bytes()])?;
+    put_line(
+        text,
+        &[b"turn", Buffer::new().format(outcome.turn).as_bytes()],
+    )?;
     put_units_line(text, b"residual", outcome.residual)
 }
 
 /// Appends the line of the residual's place.
 fn put_place(text: &mut Vec<u8>, model: &Model, outcome: &Outcome<'_>) -> Result<(), AllocError>
     requires { length outcome.now.place.now ≡ length model.now.vars }
-    ensures {
-        let place : Place = record { state = outcome.now.place.now; side = outcome.now.side; action = outcome.now.action } in
-        OnOk result (text.new.items ≡ text.old.items ++ place_line model.now place)
-    }
+    ensures { let place : Place = record { state = outcome.now.place.now; side = outcome.now.side; action = outcome.now.action } in
+        OnOk result (text.new.items ≡ text.old.items ++ place_line model.now place) }
 {
     text.extend_from_slice(b"at")?;
     put_state(text, model, outcome.place)?;

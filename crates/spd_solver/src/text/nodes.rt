@@ -5,11 +5,10 @@ ghost use Rattle.std.specs.Prelude.{◌≡◌, ◌++◌, ◌+◌, ◌^◌, ◌<�
 ghost use Rattle.spd_model.specs.ResultText.{line, units, action_name as action_text};
 ghost use Rattle.spd_model.specs.States.{sizes, state_count};
 ghost use Rattle.spd_solver.specs.TextParts.{value_lines, policy_lines, spaced};
-ghost use Rattle.spd_solver.specs.TextNodes.{distinct as distinct_of, node_count, leaf_line, leaf_lines, root_lines, number_among, numbers_among};
+ghost use Rattle.spd_solver.specs.TextNodes.{distinct as distinct_of, node_count, leaf_line, leaf_lines, branch_line, root_lines, number_among, numbers_among};
 
 use crate::text::line::{put_line, put_word};
 use crate::text::names::{action_name, var_name};
-
 use itoa::Buffer;
 use spd_model::Model;
 use spd_scaled::put_units;
@@ -97,11 +96,14 @@ fn put_policy_leaves(text: &mut Vec<u8>, model: &Model, leaves: &[u32]) -> Resul
 fn put_leaf(text: &mut Vec<u8>, number: usize, leaf: &[u8]) -> Result<(), AllocError>
     ensures { OnOk result (text.new.items ≡ text.old.items ++ leaf_line number leaf.now) }
 {
-    put_line(text, &[Buffer::new().format(number).as_bytes(), b"leaf", leaf])
+    put_line(
+        text,
+        &[Buffer::new().format(number).as_bytes(), b"leaf", leaf],
+    )
 }
 
 /// Appends the line of the branch, unless there is one leaf alone.
-fn put_root<T: Copy + Eq>(
+fn put_root<T: Eq>(
     text: &mut Vec<u8>,
     var: &[u8],
     table: &[T],
@@ -110,8 +112,21 @@ fn put_root<T: Copy + Eq>(
     ensures { OnOk result (text.new.items ≡ text.old.items ++ root_lines T.eq var.now leaves.now table.now) }
 {
     if leaves.len() == 1 {
-        return Ok(());
+        Ok(())
+    } else {
+        put_branch(text, var, table, leaves)
     }
+}
+
+/// Appends the line of the branch on a variable, whose number comes after those of the leaves.
+fn put_branch<T: Eq>(
+    text: &mut Vec<u8>,
+    var: &[u8],
+    table: &[T],
+    leaves: &[T],
+) -> Result<(), AllocError>
+    ensures { OnOk result (text.new.items ≡ text.old.items ++ branch_line T.eq var.now leaves.now table.now) }
+{
     text.extend_from_slice(Buffer::new().format(leaves.len()).as_bytes())?;
     put_word(text, b"branch")?;
     put_word(text, var)?;
@@ -120,7 +135,7 @@ fn put_root<T: Copy + Eq>(
 }
 
 /// Appends the number of each entry's leaf, each behind a space.
-fn put_numbers<T: Copy + Eq>(text: &mut Vec<u8>, table: &[T], leaves: &[T]) -> Result<(), AllocError>
+fn put_numbers<T: Eq>(text: &mut Vec<u8>, table: &[T], leaves: &[T]) -> Result<(), AllocError>
     ensures { OnOk result (text.new.items
         ≡ text.old.items ++ spaced (map decimal (numbers_among T.eq leaves.now table.now))) }
 {
