@@ -9,7 +9,7 @@ use Rattle.spd_model.specs.declared.Why.{Why}
 use Rattle.spd_model.specs.declared.Side.{Side}
 use Rattle.spd_model.specs.Process.{Process}
 use Rattle.spd_model.specs.Numbers.{numbers_below}
-use Rattle.spd_model.specs.States.{sizes, states, state_count, table_of, at}
+use Rattle.spd_model.specs.States.{sizes, states, IsState, state_count, table_of, at}
 use Rattle.spd_model.specs.Backup.{policy_of}
 use Rattle.spd_model.specs.Turns.{Place, place_of, residual_of, error_of, stop_of}
 use Rattle.spd_model.specs.Reduced.{Diagram, leaf, choice_of, reduced}
@@ -33,6 +33,16 @@ length-states (size ∷ sizes) =
 -- a table has one entry for each state
 pub length-table_of : {X : Type 0} (sizes : List ℕ) (f : List ℕ → X) → length (table_of sizes f) ≡ state_count sizes
 length-table_of sizes f = length-map (states sizes) f ∙ length-states sizes
+
+length-state : (sizes s : List ℕ) → IsState sizes s → length s ≡ length sizes
+length-state [] [] h = refl
+length-state [] (v ∷ s) h = absurd h
+length-state (size ∷ sizes) [] h = absurd h
+length-state (size ∷ sizes) (v ∷ s) h = ap suc (length-state sizes s h.1)
+
+-- a state has one value for each variable
+pub length-place : (m : Process) (s : List ℕ) → IsState (sizes m) s → length s ≡ length m.vars
+length-place m s h = length-state (sizes m) s h ∙ length-map m.vars (λ (x : Var). length x.values)
 
 -- ---- the policy's diagram
 

@@ -9,6 +9,8 @@ ghost use Rattle.spd_solver.specs.TextParts.{text_with, spaced};
 mod line;
 mod names;
 mod nodes;
+#[cfg(test)]
+mod tests;
 
 use itoa::Buffer;
 use line::{put_line, put_units_line, put_word};
@@ -18,6 +20,7 @@ use spd_model::{Model, Side, State, Var, Why};
 use std::alloc::{AllocError, Global};
 
 /// What a run of value iteration found, as its text tells it. Values count units of 10^-9.
+#[derive(Clone, Copy)]
 pub(crate) struct Outcome<'a> {
     pub why: Why,
     pub turn: u32,
@@ -33,7 +36,9 @@ pub(crate) struct Outcome<'a> {
     pub error: i128,
 }
 
-/// The text of a result for a model of one variable.
+/// The text of a result for a model of one variable: the lines from `spd result 1` to `end`, each ended by LF.
+///
+/// The only error is want of memory.
 pub(crate) fn result_text_of(
     alloc: Global,
     model: &Model,
@@ -48,6 +53,7 @@ pub(crate) fn result_text_of(
         ≡ text_with model.now outcome.now.why outcome.now.turn outcome.now.value.now outcome.now.policy.now
         outcome.now.residual place outcome.now.error) }
 {
+    // Room for the whole text of most models.
     let mut text = Vec::with_capacity(alloc, 1024)?;
     put_head(&mut text, outcome)?;
     put_place(&mut text, model, outcome)?;

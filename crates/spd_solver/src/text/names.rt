@@ -5,6 +5,7 @@ ghost use Rattle.spd_model.specs.ResultText.{why_text, side_text, action_name as
 
 use spd_model::{Model, Side, Var, Why};
 
+/// The word for why a run ended.
 pub(super) fn why_word(why: Why) -> &'static [u8]
     ensures { result.now ≡ why_text why }
 {
@@ -14,6 +15,7 @@ pub(super) fn why_word(why: Why) -> &'static [u8]
     }
 }
 
+/// The word for the side of a residual.
 pub(super) fn side_word(side: Side) -> &'static [u8]
     ensures { result.now ≡ side_text side }
 {
