@@ -2,3 +2,8 @@ mod Writing
 pub mod SmallTokens
 pub mod SmallNumbers
 pub mod SmallTrees
+pub mod TextLines
+pub mod TextNodeLines
+pub mod TextDiagrams
+pub mod TextTables
+pub mod TextWhole

@@ -7,3 +7,5 @@ pub mod SmallSyntax
 pub mod Small
 pub mod SmallReading
 pub mod Run
+pub mod TextParts
+pub mod TextNodes

@@ -5,6 +5,7 @@ mod file;
 mod pieces;
 mod small;
 mod status;
+mod text;
 mod words;
 
 pub use file::FILE_LIMIT;
