@@ -1,1 +1,2 @@
 pub mod RangeOrder
+pub mod GroupSweep

@@ -1,8 +1,10 @@
 -- The derived order of bounds is the order of ranges.
-use Rattle.std.proofs.Common.{◌++◌, fold, ℕ, ◌<◌, ◌+◌, length, take, get_or, ◌≡◌, Bool, true, false, cond, ◌&&◌, ◌||◌, ℤ, List, [], ◌∷◌, map, Ordering, Less, Equal, Greater, refl, ap, sym, ◌∙◌, arith}
+use Rattle.std.proofs.Common.{◌++◌, fold, ℕ, ◌<◌, ◌+◌, length, take, get_or, ◌≡◌, Bool, true, false, cond, ◌&&◌, ◌||◌, ℤ, List, [], ◌∷◌, map, Ordering, Less, Equal, Greater, refl, ap, sym, ◌∙◌}
 use Rattle.std.specs.Prelude.{int_lt}
-use Rattle.std.specs.Ordering.{int_cmp, ordering_then, is_eq, is_lt, match_ordering}
+use Rattle.std.specs.Ordering.{int_cmp, ordering_then, is_eq, is_lt, match_ordering, ordering_reverse}
 use Rattle.std.specs.Bool.{if◌then◌else◌}
+use Rattle.std.specs.Cmp.{IsTotalOrder, on_total}
+use Rattle.std.proofs.lemmas.Cmp.{then_total, int_cmp_total}
 use Rattle.std.proofs.lemmas.List.{take_more}
 use Rattle.std.specs.BTreeSet.{insert_key}
 use Rattle.spd_model.specs.Ranges.{Range, is_same, is_before, with_range, in_order}
@@ -59,3 +61,18 @@ pub in_order_more : (ks : List Bounds) (all : List Bounds) (i : ℕ) (d : Bounds
 in_order_more ks all i d e h =
     ap (λ rs. with_range rs (range_of (get_or all i d))) e
     ∙ sym (rw (take_more all i d h) (in_order_push [] (take i all) (get_or all i d)))
+
+-- ---- the order is total, and tells all ranges apart
+
+pub bounds_cmp_total : IsTotalOrder bounds_cmp
+bounds_cmp_total = then_total (on_total (λ (b : Bounds). b.low) int_cmp_total) (on_total (λ (b : Bounds). b.high) int_cmp_total)
+
+not_same : (c d : Ordering) → c ≡ Less → c ≡ ordering_reverse d → is_eq d ≡ false
+not_same c Less e h = refl
+not_same c Equal e h = cc
+not_same c Greater e h = refl
+
+-- a bound that comes later is another
+pub other_if_below : (a b : Bounds) → bounds_cmp a b ≡ Less → is_same (range_of b) (range_of a) ≡ false
+other_if_below a b h =
+    is_same_is (range_of b) (range_of a) ∙ not_same (bounds_cmp a b) (bounds_cmp b a) h (bounds_cmp_total.antisymm a b)
