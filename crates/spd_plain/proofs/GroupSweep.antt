@@ -158,12 +158,12 @@ pub begun_below : (i n : ℕ) (x : ℤ) (values : List ℤ) → length values �
 begun_below i n x values k l = rw (take_all i values k) (simp (length-append, length-replicate) (omega arith))
 
 -- the last group ends
-pub swept_ends : (span low high : ℤ) (i n : ℕ) (values target : List ℤ) (rs : List Bounds) → length rs ≤ i → length values ≤ i → n ≡ length values
+pub swept_ends : (span low high : ℤ) (i n : ℕ) (values target : List ℤ) (rs : List Bounds) → i ≡ length rs → length values ≤ i → n ≡ length values
     → values ++ sweep span low high (i - length values) (drop i (map range_of rs)) ≡ target
-    → take i values ++ replicate (i - n) (floor_div (low +ℤ high) (pos 2)) ≡ target
+    → take (length rs) values ++ replicate (length rs - n) (floor_div (low +ℤ high) (pos 2)) ≡ target
 swept_ends span low high i n values target rs h k l e =
-    let none : drop i (map range_of rs) ≡ [] = drop_all i (map range_of rs) (rw (length-map rs range_of) h) in
-    rw (l, take_all i values k) (rw none at e)
+    let none : drop i (map range_of rs) ≡ [] = drop_all i (map range_of rs) (rw (length-map rs range_of) (omega arith)) in
+    rw (← h, l, take_all i values k) (rw none at e)
 
 same : (b : Bool) (x : ℤ) → (if b then x else x) ≡ x
 same true x = refl
@@ -196,3 +196,13 @@ pub fresh_sorted : (ms : List Range) (ks : List Bounds) → AllByRecursion (λ q
 fresh_sorted ms [] h s = tt
 fresh_sorted ms (k ∷ ks) h s = (h.0, fresh_sorted (ms ++ range_of k ∷ []) ks (apart_more ms k ks h.1 (sorted_head bounds_cmp k ks s)) (sorted_tail bounds_cmp k ks s))
 
+
+apart_none : (ps : List Range) → AllByRecursion (λ q. list_any (is_same q) [] ≡ false) ps
+apart_none [] = tt
+apart_none (p ∷ ps) = (refl, apart_none ps)
+
+pub swept_init : (span : ℤ) (first : Bounds) (values : List ℤ) (rs : List Bounds) → values ≡ [] → 0 < length rs → first ≡ get_or rs 0 first → IsStrictlySortedBy bounds_cmp rs
+    → values ++ sweep span first.low first.high (0 - length values) (map range_of rs) ≡ map (value_in (groups_of span (map range_of rs))) (map range_of rs)
+swept_init span first values [] v h e s = absurd (omega arith)
+swept_init span first values (r ∷ rs) v h e s =
+    rw (v, e) (swept_first span (range_of r) (map range_of rs) (fresh_sorted [] (r ∷ rs) (apart_none (map range_of (r ∷ rs))) s))
