@@ -4,7 +4,6 @@ use Rattle.std.specs.Prelude.{int_le, int_lt}
 use Rattle.std.specs.Int.{int_max}
 use Rattle.std.specs.Bool.{⊤, if◌then◌else◌}
 use Rattle.std.specs.List.{flat_map, list_any, AllByRecursion}
-use Rattle.std.proofs.lemmas.Cmp.{int_eq_equiv}
 use Rattle.std.proofs.lemmas.List.Folds.{list_any-append}
 use Rattle.std.proofs.lemmas.List.{append-nil, append_assoc, length_push, map-append, length-map, length-append, length-replicate, drop_more, drop_all, take_all}
 use Rattle.std.proofs.Math.ListN.{get_or-map}
@@ -14,7 +13,7 @@ use Rattle.spd_scaled.specs.Scaled.{floor_div}
 use Rattle.spd_model.specs.Ranges.{Range, Group, group_of, groups_from, groups_of, joined, is_same, middle_of, value_in}
 use Rattle.spd_plain.specs.declared.ranges.Bounds.{Bounds}
 use Rattle.spd_plain.specs.Bounds.{range_of, bounds_cmp}
-use Rattle.spd_plain.proofs.RangeOrder.{other_if_below}
+use Rattle.spd_plain.proofs.RangeOrder.{other_if_below, is_same_itself}
 
 -- the middle of its group for each member
 abbrev pub middles : Group → List ℤ
@@ -74,9 +73,6 @@ fresh_later : (ms ns ps : List Range) → Fresh (ms ++ ns) ps → Fresh ns ps
 fresh_later ms ns [] h = tt
 fresh_later ms ns (p ∷ ps) h =
     (none_after (is_same p) ms ns h.0, fresh_later ms (ns ++ p ∷ []) ps (subst (λ l. Fresh l ps) (append_assoc ms ns (p ∷ [])) h.1))
-
-is_same_itself : (p : Range) → is_same p p ≡ true
-is_same_itself p = rw (int_eq_equiv.refl p.low, int_eq_equiv.refl p.high) refl
 
 -- each member of a group takes its middle
 each_member : (before qs : List Range) → AllByRecursion (λ q. list_any (is_same q) (before ++ qs) ≡ true) qs

@@ -1,2 +1,3 @@
 pub mod RangeOrder
 pub mod GroupSweep
+pub mod LookUp

@@ -4,7 +4,7 @@ use Rattle.std.specs.Prelude.{int_lt}
 use Rattle.std.specs.Ordering.{int_cmp, ordering_then, is_eq, is_lt, match_ordering, ordering_reverse}
 use Rattle.std.specs.Bool.{if◌then◌else◌}
 use Rattle.std.specs.Cmp.{IsTotalOrder, on_total}
-use Rattle.std.proofs.lemmas.Cmp.{then_total, int_cmp_total}
+use Rattle.std.proofs.lemmas.Cmp.{then_total, int_cmp_total, int_eq_equiv}
 use Rattle.std.proofs.lemmas.List.{take_more}
 use Rattle.std.specs.BTreeSet.{insert_key}
 use Rattle.spd_model.specs.Ranges.{Range, is_same, is_before, with_range, in_order}
@@ -76,3 +76,6 @@ not_same c Greater e h = refl
 pub other_if_below : (a b : Bounds) → bounds_cmp a b ≡ Less → is_same (range_of b) (range_of a) ≡ false
 other_if_below a b h =
     is_same_is (range_of b) (range_of a) ∙ not_same (bounds_cmp a b) (bounds_cmp b a) h (bounds_cmp_total.antisymm a b)
+
+pub is_same_itself : (p : Range) → is_same p p ≡ true
+is_same_itself p = rw (int_eq_equiv.refl p.low, int_eq_equiv.refl p.high) refl
