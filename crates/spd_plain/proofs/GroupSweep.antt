@@ -1,5 +1,5 @@
 -- One sweep over ranges in order gives the middle of its group for each.
-use Rattle.std.proofs.Common.{ℕ, ◌<◌, ◌≤◌, ◌-◌, get_or, take, drop, arith, Less, ◌+◌, ◌≡◌, Bool, true, false, cond, ◌||◌, ℤ, pos, ◌+ℤ◌, List, [], ◌∷◌, ◌++◌, map, length, replicate, refl, ap, sym, ◌∙◌, subst, true≢false}
+use Rattle.std.proofs.Common.{ℕ, ◌<◌, ◌≤◌, ◌-◌, get_or, take, drop, arith, Less, ◌+◌, ◌≡◌, Bool, true, false, ◌||◌, ℤ, pos, ◌+ℤ◌, List, [], ◌∷◌, ◌++◌, map, length, replicate, refl, ap, sym, ◌∙◌, subst, true≢false}
 use Rattle.std.specs.Prelude.{int_le, int_lt}
 use Rattle.std.specs.Int.{int_max}
 use Rattle.std.specs.Bool.{⊤, if◌then◌else◌}
@@ -13,7 +13,7 @@ use Rattle.spd_scaled.specs.Scaled.{floor_div}
 use Rattle.spd_model.specs.Ranges.{Range, Group, group_of, groups_from, groups_of, joined, is_same, middle_of, value_in}
 use Rattle.spd_plain.specs.declared.ranges.Bounds.{Bounds}
 use Rattle.spd_plain.specs.Bounds.{range_of, bounds_cmp}
-use Rattle.spd_plain.proofs.RangeOrder.{other_if_below, is_same_itself}
+use Rattle.spd_plain.proofs.RangeOrder.{other_if_below, is_same_itself, or_true}
 
 -- the middle of its group for each member
 abbrev pub middles : Group → List ℤ
@@ -51,10 +51,6 @@ or_right : (a b : Bool) → (a || b) ≡ false → b ≡ false
 or_right true b h = absurd (true≢false h)
 or_right false b h = h
 
-or_true : (a b : Bool) → b ≡ true → (a || b) ≡ true
-or_true true b h = refl
-or_true false b h = h
-
 none_before : (f : Range → Bool) (xs ys : List Range) → list_any f (xs ++ ys) ≡ false → list_any f xs ≡ false
 none_before f xs ys h = or_left (list_any f xs) (list_any f ys) (sym (list_any-append f xs ys) ∙ h)
 
@@ -77,9 +73,10 @@ fresh_later ms ns (p ∷ ps) h =
 -- each member of a group takes its middle
 each_member : (before qs : List Range) → AllByRecursion (λ q. list_any (is_same q) (before ++ qs) ≡ true) qs
 each_member before [] = tt
-each_member before (q ∷ qs) =
-    (list_any-append (is_same q) before (q ∷ qs) ∙ or_true (list_any (is_same q) before) _ (ap (λ b. b || list_any (is_same q) qs) (is_same_itself q)),
-    subst (λ l. AllByRecursion (λ r. list_any (is_same r) l ≡ true) qs) (append_assoc before (q ∷ []) qs) (each_member (before ++ q ∷ []) qs))
+each_member before (q ∷ qs) = (
+  list_any-append (is_same q) before (q ∷ qs) ∙ or_true (list_any (is_same q) before) _ (ap (λ b. b || list_any (is_same q) qs) (is_same_itself q)),
+  subst (λ l. AllByRecursion (λ r. list_any (is_same r) l ≡ true) qs) (append_assoc before (q ∷ []) qs) (each_member (before ++ q ∷ []) qs),
+)
 
 at_members : (g : Group) (gs : List Group) (qs : List Range) → AllByRecursion (λ q. list_any (is_same q) g.members ≡ true) qs → map (value_in (g ∷ gs)) qs ≡ replicate (length qs) (middle_of g)
 at_members g gs [] h = refl
@@ -184,14 +181,14 @@ swept_first span p ps h = first_step span p ps ∙ sweep_values span p ps h
 apart_more : (ms : List Range) (k : Bounds) (ks : List Bounds) → AllByRecursion (λ q. list_any (is_same q) ms ≡ false) (map range_of ks) → AllByRecursion (λ y. bounds_cmp k y ≡ Less) ks
     → AllByRecursion (λ q. list_any (is_same q) (ms ++ range_of k ∷ []) ≡ false) (map range_of ks)
 apart_more ms k [] h s = tt
-apart_more ms k (q ∷ ks) h s =
-    (list_any-append (is_same (range_of q)) ms (range_of k ∷ []) ∙ rw (h.0, other_if_below k q s.0) refl,
-    apart_more ms k ks h.1 s.1)
+apart_more ms k (q ∷ ks) h s = (
+  list_any-append (is_same (range_of q)) ms (range_of k ∷ []) ∙ rw (h.0, other_if_below k q s.0) refl,
+  apart_more ms k ks h.1 s.1,
+)
 
 pub fresh_sorted : (ms : List Range) (ks : List Bounds) → AllByRecursion (λ q. list_any (is_same q) ms ≡ false) (map range_of ks) → IsStrictlySortedBy bounds_cmp ks → Fresh ms (map range_of ks)
 fresh_sorted ms [] h s = tt
 fresh_sorted ms (k ∷ ks) h s = (h.0, fresh_sorted (ms ++ range_of k ∷ []) ks (apart_more ms k ks h.1 (sorted_head bounds_cmp k ks s)) (sorted_tail bounds_cmp k ks s))
-
 
 apart_none : (ps : List Range) → AllByRecursion (λ q. list_any (is_same q) [] ≡ false) ps
 apart_none [] = tt

@@ -1,10 +1,10 @@
 -- A binary search in the distinct ranges finds each range of the list that they come from.
-use Rattle.std.proofs.Common.{ℕ, ℤ, ◌⊎◌, inl, inr, ◌+◌, ◌<◌, ◌≤◌, ◌≡◌, Bool, true, false, ◌||◌, ◌&&◌, List, [], ◌∷◌, ◌++◌, map, fold, length, get_or, take, Result, Ok, Err, Ordering, Less, Equal, Greater, refl, ap, sym, subst, ◌∙◌, arith, zero, suc, true≢false}
+use Rattle.std.proofs.Common.{ℕ, ℤ, ◌⊎◌, inl, inr, ◌+◌, ◌<◌, ◌≤◌, ◌≡◌, Bool, true, false, ◌||◌, List, [], ◌∷◌, ◌++◌, map, fold, length, get_or, take, Result, Ok, Err, Less, Equal, Greater, refl, ap, sym, ◌∙◌, arith, zero, suc, true≢false}
 use Rattle.std.specs.Bool.{if◌then◌else◌}
 use Rattle.std.specs.List.{list_any, Contains}
 use Rattle.std.specs.List.Sorted.{IsStrictlySortedBy, IsSortedBy, IsPartitionPoint, IsBinarySearchResult}
-use Rattle.std.specs.Ordering.{is_lt, is_eq, ordering_index, ordering_reverse}
-use Rattle.std.specs.Result.{IsOk, IfOk}
+use Rattle.std.specs.Ordering.{is_lt, is_eq, ordering_reverse}
+use Rattle.std.specs.Result.{IsOk}
 use Rattle.std.proofs.lemmas.Bool.{and_parts, or_cases, cases_lt}
 use Rattle.std.proofs.lemmas.Bool.Decides.{Decides-int_eq}
 use Rattle.std.proofs.lemmas.Cmp.{tied_itself}
@@ -14,11 +14,7 @@ use Rattle.std.proofs.lemmas.Map.Keys.{Less-from_sorted}
 use Rattle.spd_model.specs.Ranges.{Range, is_same, is_before, with_range, in_order}
 use Rattle.spd_plain.specs.declared.ranges.Bounds.{Bounds}
 use Rattle.spd_plain.specs.Bounds.{range_of, bounds_cmp}
-use Rattle.spd_plain.proofs.RangeOrder.{bounds_cmp_total, is_same_itself, is_same_is}
-
-or_true : (a b : Bool) → b ≡ true → (a || b) ≡ true
-or_true true b h = refl
-or_true false b h = h
+use Rattle.spd_plain.proofs.RangeOrder.{bounds_cmp_total, is_same_itself, is_same_is, or_true}
 
 -- ---- each range of a list is among its distinct ranges
 

@@ -1,5 +1,5 @@
 -- The derived order of bounds is the order of ranges.
-use Rattle.std.proofs.Common.{◌++◌, fold, ℕ, ◌<◌, ◌+◌, length, take, get_or, ◌≡◌, Bool, true, false, cond, ◌&&◌, ◌||◌, ℤ, List, [], ◌∷◌, map, Ordering, Less, Equal, Greater, refl, ap, sym, ◌∙◌}
+use Rattle.std.proofs.Common.{◌++◌, fold, ℕ, ◌<◌, ◌+◌, length, take, get_or, ◌≡◌, Bool, true, false, cond, ◌&&◌, ◌||◌, List, [], ◌∷◌, map, Ordering, Less, Equal, Greater, refl, ap, sym, ◌∙◌}
 use Rattle.std.specs.Prelude.{int_lt}
 use Rattle.std.specs.Ordering.{int_cmp, ordering_then, is_eq, is_lt, match_ordering, ordering_reverse}
 use Rattle.std.specs.Bool.{if◌then◌else◌}
@@ -79,3 +79,7 @@ other_if_below a b h =
 
 pub is_same_itself : (p : Range) → is_same p p ≡ true
 is_same_itself p = rw (int_eq_equiv.refl p.low, int_eq_equiv.refl p.high) refl
+
+pub or_true : (a b : Bool) → b ≡ true → (a || b) ≡ true
+or_true true b h = refl
+or_true false b h = h

@@ -1,10 +1,10 @@
-use Rattle.std.proofs.Common.{◌≡◌, ◌<◌, List, map, ap, ◌∙◌, sym, take, get_or, length, pos, to_z, of_z, FitsSigned, rules, arith}
+use Rattle.std.proofs.Common.{◌≡◌, ◌<◌, List, map, ◌∙◌, sym, get_or, length, pos, to_z, of_z, FitsSigned, rules}
 use Rattle.std.proofs.lemmas.Int.{to_z-of_z}
 use Rattle.std.proofs.lemmas.List.{take_all}
 use mir.Syntax.{w128}
-use Rattle.spd_model.specs.Ranges.{Range, in_order, groups_of, value_in}
+use Rattle.spd_model.specs.Ranges.{in_order, groups_of, value_in}
 use Rattle.spd_plain.specs.declared.ranges.Bounds.{Bounds}
-use Rattle.spd_plain.specs.Bounds.{range_of, bounds_cmp}
+use Rattle.spd_plain.specs.Bounds.{range_of}
 use Rattle.spd_plain.proofs.LookUp.{search_finds, found_same, value_read, values_more}
 use Rattle.spd_plain.proofs.ranges.merge_ranges.Goals as goal
 
