@@ -1,6 +1,7 @@
 //! Merging of ranges: states whose joint range of values stays within a span get one value.
 //!
-//! This is how APRICODD (St-Aubin, Hoey and Boutilier, NIPS 2000) makes a value function smaller.
+//! APRICODD (St-Aubin, Hoey and Boutilier, NIPS 2000) makes value functions smaller by joining close values.
+//! How groups are formed here is this project's own rule.
 
 ghost use Rattle.std.specs.Prelude.{◌≡◌, All, IfOk, map, pos, ◌≤ℤ◌, ◌^◌};
 ghost use Rattle.std.specs.List.Sorted.{IsStrictlySortedBy};
