@@ -1,3 +1,3 @@
-pub mod RangeOrder
-pub mod GroupSweep
-pub mod LookUp
+mod RangeOrder
+mod GroupSweep
+mod LookUp
