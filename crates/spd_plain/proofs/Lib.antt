@@ -1,0 +1,3 @@
+mod RangeOrder
+mod GroupSweep
+mod LookUp
