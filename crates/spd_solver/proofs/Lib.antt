@@ -1,3 +1,4 @@
 pub mod SmallTokens
 pub mod SmallNumbers
 pub mod SmallTrees
+pub mod SmallFiles

@@ -58,13 +58,13 @@ keyword_at keyword tokens = do
 
 -- ---- numbers
 
--- the digits before and behind the point
+-- the digits before and behind the point, of which there are some
+abbrev pub parts_step : List ℕ → Option ℕ → Option (List ℕ × List ℕ)
+parts_step text None = Some (text, [])
+parts_step text (Some at) = if nat_le (length text) (at + 1) then None else Some (take at text, drop (at + 1) text)
+
 unfoldable pub parts_of : List ℕ → Option (List ℕ × List ℕ)
-parts_of text =
-    elim (position (λ byte. byte == 46) text) [
-      | None ↦ Some (text, [])
-      | Some at ↦ if nat_le (length text) (at + 1) then None else Some (take at text, drop (at + 1) text)
-    ]
+parts_of text = parts_step text (position (λ byte. byte == 46) text)
 
 unfoldable pub digits_of : List ℕ → Option ℕ
 digits_of text = if list_all is_ascii_digit text then Some (digits_value 10 text) else None
@@ -99,11 +99,13 @@ branch_at tree var tokens = do
   Some (v, t.0, rest)
 
 -- a tree is put in the place of its value, which is to be free
+abbrev pub fill_step : List (Option Tree) → Option (Option Tree) → Option (List (Option Tree))
+fill_step more None = None
+fill_step more (Some None) = Some more
+fill_step more (Some (Some kid)) = None
+
 unfoldable pub filled : List (Option Tree) → ℕ → Tree → Option (List (Option Tree))
-filled slots v tree = elim (slice_get slots v) [
-      | None ↦ None
-      | Some slot ↦ elim slot [ None ↦ Some (slice_set slots v (Some tree)) | Some other ↦ None ]
-    ]
+filled slots v tree = fill_step (slice_set slots v (Some tree)) (slice_get slots v)
 
 -- so many branches
 unfoldable pub branches_at : (List Token → Option (Tree × List Token)) → Var → ℕ → List (Option Tree) → List Token → Option (List (Option Tree) × List Token)
@@ -135,15 +137,17 @@ leaf_at role head rest = do
   n ← number_of (most_digits role) 12 head
   Some (Leaf (pos n), rest)
 
+-- a tree whose head is followed by the end of its brackets is a number, each other one has branches
+abbrev pub tree_step : {X : Type 0} → (List Token → Option X) → Option X → Option (List Token) → Option X
+tree_step leaf branches None = branches
+tree_step leaf branches (Some rest) = leaf rest
+
 unfoldable pub tree_at : Role → Var → ℕ → List Token → Option (Tree × List Token)
 tree_at role var zero tokens = None
 tree_at role var (suc depth) tokens = do
   inside ← opening_at tokens
   head ← word_at inside
-  elim (closing_at head.1) [
-    | Some rest ↦ leaf_at role head.0 rest
-    | None ↦ inside_at (tree_at role var depth) role var head.0 head.1
-  ]
+  tree_step (leaf_at role head.0) (inside_at (tree_at role var depth) role var head.0 head.1) (closing_at head.1)
 
 -- ---- files
 
@@ -152,13 +156,15 @@ unfoldable pub are_distinct : List (List ℕ) → Bool
 are_distinct [] = true
 are_distinct (text ∷ texts) = not (list_any (bytes_eq text) texts) && are_distinct texts
 
+-- a word, if one stands next, and the others
+abbrev pub words_step : (List Token → List (List ℕ) × List Token) → List Token → Option (List ℕ × List Token) → List (List ℕ) × List Token
+words_step others tokens None = ([], tokens)
+words_step others tokens (Some w) = (w.0 ∷ (others w.1).0, (others w.1).1)
+
 -- the words that stand next, up to so many, and what is behind them
 unfoldable pub words_at : ℕ → List Token → List (List ℕ) × List Token
 words_at zero tokens = ([], tokens)
-words_at (suc n) tokens = elim (word_at tokens) [
-      | None ↦ ([], tokens)
-      | Some w ↦ let more = words_at n w.1 in (w.0 ∷ more.0, more.1)
-    ]
+words_at (suc n) tokens = words_step (words_at n) tokens (word_at tokens)
 
 -- the variable of these texts
 unfoldable pub variable_of : List ℕ → List (List ℕ) → Option Var
@@ -192,22 +198,23 @@ action_at var tokens = do
 abbrev pub begins_action : List Token → Bool
 begins_action tokens = is_some (keyword_at (codes "action") tokens)
 
+-- an action and the others
+unfoldable pub actions_step : Var → (List Token → Option (List Action × List Token)) → List Token → Option (List Action × List Token)
+actions_step var others tokens = do
+  a ← action_at var tokens
+  more ← others a.1
+  Some (a.0 ∷ more.0, more.1)
+
 -- the actions that stand next, up to so many, and what is behind them
 unfoldable pub actions_at : Var → ℕ → List Token → Option (List Action × List Token)
 actions_at var zero tokens = Some ([], tokens)
-actions_at var (suc n) tokens = elim (begins_action tokens) [
-      | false ↦ Some ([], tokens)
-      | true ↦ (do
-          a ← action_at var tokens
-          more ← actions_at var n a.1
-          Some (a.0 ∷ more.0, more.1))
-    ]
+actions_at var (suc n) tokens = if begins_action tokens then actions_step var (actions_at var n) tokens else Some ([], tokens)
 
 -- actions, at least one and each with a name of its own
 unfoldable pub named_actions_at : Var → List Token → Option (List Action × List Token)
 named_actions_at var tokens = do
   a ← actions_at var 64 tokens
-  if length a.0 == 0 || not (are_distinct (map (λ (x : Action). x.name) a.0)) then None else Some a
+  if length a.0 == 0 then None else (if are_distinct (map (λ (x : Action). x.name) a.0) then Some a else None)
 
 -- the discount, which is below one
 unfoldable pub discount_of : List ℕ → Option ℕ
