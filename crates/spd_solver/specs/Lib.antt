@@ -3,3 +3,4 @@ pub mod SmallSeen
 pub mod SmallSyntax
 pub mod Small
 pub mod SmallReading
+pub mod SmallContents

@@ -7,6 +7,7 @@ ghost use Rattle.spd_model.specs.Names.{is_value_name};
 ghost use Rattle.spd_model.specs.declared.process.Action.{Action as ActionValue};
 ghost use Rattle.spd_solver.specs.SmallToken.{tokens_of};
 ghost use Rattle.spd_solver.specs.SmallReading.{Gives, are_distinct, words_at, variable_of, variable_at, action_of, action_at, begins_action, actions_at, named_actions_at, discount_of, settings_at, file_at};
+ghost use Rattle.spd_solver.specs.SmallContents.{process_of};
 
 use crate::small::lexer::{after_keyword, close, keyword, next_word, open, token_at, word};
 use crate::small::trees::{Role, TreeReader};
@@ -163,11 +164,11 @@ fn actions<'b>(alloc: Global, var: &Var, bytes: &'b [u8]) -> Result<(Items<Actio
 }
 
 /// Whether no two of the actions have the same name.
-fn have_distinct_names(alloc: Global, actions: &[Action]) -> Result<bool, AllocError>
+fn have_distinct_names(alloc: Global, actions: &Items<Action>) -> Result<bool, AllocError>
     ensures { IfOk result (λ distinct. distinct ≡ are_distinct (map (λ (a : ActionValue). a.name) actions.now)) }
 {
     let mut names = Vec::new(alloc);
-    for action in actions {
+    for action in actions.as_slice() {
         names.push(Name::from_slice(alloc, action.name.as_slice())?)?;
     }
     Ok(are_distinct(&names))
@@ -182,7 +183,7 @@ fn named_actions<'b>(alloc: Global, var: &Var, bytes: &'b [u8]) -> Result<(Items
     if actions.as_slice().is_empty() {
         return Err(Unread::Refused);
     }
-    let distinct = have_distinct_names(alloc, actions.as_slice())?;
+    let distinct = have_distinct_names(alloc, &actions)?;
     if !distinct {
         return Err(Unread::Refused);
     }
@@ -217,4 +218,41 @@ fn settings(bytes: &[u8]) -> Result<(u32, u128), Unread>
         return Err(Unread::Refused);
     }
     Ok((discount, tolerance))
+}
+
+/// What a whole file says of a process of one variable.
+#[derive(Drop)]
+struct Contents {
+    var: Var,
+    actions: Items<Action>,
+    reward: Tree,
+    discount: u32,
+    tolerance: u128,
+}
+
+#[tactic(auto, unfolding(crate::specs::SmallReading::file_at))]
+fn read_contents(alloc: Global, bytes: &[u8]) -> Result<Contents, Unread>
+    ensures value { Gives process_of result (file_at (tokens_of bytes.now)) }
+    ensures bound { IfOk result (λ x. x.tolerance < 10 ^ 25) }
+{
+    let rest = open(bytes)?;
+    let rest = keyword(b"variables", rest)?;
+    let (var, rest) = variable(alloc, rest)?;
+    let rest = close(rest)?;
+    let (actions, rest) = named_actions(alloc, &var, rest)?;
+    let rest = keyword(b"reward", rest)?;
+    let reader = TreeReader {
+        alloc,
+        role: Role::Reward,
+        var: &var,
+    };
+    let (reward, rest) = reader.tree(NESTING, rest)?;
+    let (discount, tolerance) = settings(rest)?;
+    Ok(Contents {
+        var,
+        actions,
+        reward,
+        discount,
+        tolerance,
+    })
 }
