@@ -2,3 +2,6 @@ pub mod SmallTokens
 pub mod SmallNumbers
 pub mod SmallTrees
 pub mod SmallFiles
+pub mod SmallSteps
+pub mod SmallNumberLaws
+pub mod SmallTreeLaws
