@@ -5,3 +5,4 @@ pub mod SmallFiles
 pub mod SmallSteps
 pub mod SmallNumberLaws
 pub mod SmallTreeLaws
+pub mod SmallTreesTaken

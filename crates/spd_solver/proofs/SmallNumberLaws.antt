@@ -86,7 +86,7 @@ no_point byte = not (is_point byte)
 digit_no_point : (byte : ℕ) → is_ascii_digit byte ≡ true → no_point byte ≡ true
 digit_no_point byte digit = grind arith
 
-both : (a b : Bool) → (a && b) ≡ true → (a ≡ true) × (b ≡ true)
+pub both : (a b : Bool) → (a && b) ≡ true → (a ≡ true) × (b ≡ true)
 both true b e = (refl, e)
 both false b e = absurd cc
 
