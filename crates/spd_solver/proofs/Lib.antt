@@ -6,3 +6,4 @@ pub mod SmallSteps
 pub mod SmallNumberLaws
 pub mod SmallTreeLaws
 pub mod SmallTreesTaken
+pub mod SmallFilesTaken
