@@ -5,6 +5,7 @@ use Rattle.std.specs.List.{list_all, flat_map}
 use Rattle.std.specs.Str.{bytes_eq}
 use Rattle.std.proofs.lemmas.Bool.{ltb-true, ltb-false, eqb-true}
 use Rattle.std.proofs.lemmas.List.{nil_from_length}
+use Rattle.std.proofs.lemmas.Option.{same_Some}
 use Rattle.std.proofs.lemmas.List.Concat.{flat_map-cons}
 use Rattle.std.proofs.lemmas.List.Sums.{AllPass-from_list_all}
 use Rattle.spd_model.specs.Names.{is_name, is_value_name}
@@ -222,3 +223,133 @@ settings_take tokens x e =
       below_one = discount.1;
       tolerance_is = number_takes 9 9 t.0.0 u.0 u.1;
     })
+
+-- ---- the file
+
+named_actions_take : (var : Var) (tokens : List Token) (x : List Action × List Token) → named_actions_at var tokens ≡ Some x
+    → TookActions var 64 tokens x × (1 ≤ length x.0) × AreDistinct (map (λ (a : Action). a.name) x.0)
+unfolding named_actions_at
+named_actions_take var tokens x e =
+    let names : List Action × List Token → List (List ℕ) = λ a. map (λ (y : Action). y.name) a.0 in
+    let a = bind_some (actions_at var 64 tokens) (λ a. cond (eqb (length a.0) 0) None (cond (are_distinct (names a)) (Some a) None)) x e in
+    let g = guard_none (eqb (length a.0.0) 0) (cond (are_distinct (names a.0)) (Some a.0) None) x a.2 in
+    let d = guard_some (are_distinct (names a.0)) (Some a.0) x g.1 in
+    let same : a.0 ≡ x = cc in
+    subst (λ (y : List Action × List Token). TookActions var 64 tokens y × (1 ≤ length y.0) × AreDistinct (map (λ (a : Action). a.name) y.0)) same
+    (actions_take var 64 tokens a.0 a.1, positive (length a.0.0) g.0, distinct_pairs (names a.0) d.0)
+  where
+    positive : (k : ℕ) → eqb k 0 ≡ false → 1 ≤ k
+    positive zero t = absurd cc
+    positive (suc k) t = omega arith
+
+-- the words of a file from the left on
+abbrev pub from_left : List ℕ → List Token → List Token → List Token → List Token → List Token
+from_left name values actions reward end =
+    opening ∷ word (codes "variables") ∷ opening ∷ word name ∷ (values ++ closing ∷ closing ∷ (actions ++ (word (codes "reward") ∷ (reward ++ end))))
+
+pub regrouped : (name : List ℕ) (values actions reward end : List Token) → from_left name values actions reward end
+    ≡ (opening ∷ word (codes "variables") ∷ opening ∷ word name ∷ values ++ closing ∷ closing ∷ []) ++ actions ++ (word (codes "reward") ∷ reward) ++ end
+regrouped name values actions reward end =
+    let start : List Token = opening ∷ word (codes "variables") ∷ opening ∷ word name ∷ values ++ closing ∷ closing ∷ [] in
+    ap (λ (ts : List Token). opening ∷ word (codes "variables") ∷ opening ∷ word name ∷ ts)
+    (sym (append_assoc values (closing ∷ closing ∷ []) (actions ++ (word (codes "reward") ∷ (reward ++ end)))))
+    ∙ sym (append_assoc start actions (word (codes "reward") ∷ (reward ++ end))) ∙ sym (append_assoc (start ++ actions) (word (codes "reward") ∷ reward) end)
+
+-- the parts of a file, one after the other, are the file's words
+spelled_parts : (tokens after_opening after_keyword after_values after_variable after_actions after_reward settings : List Token)
+    (name : List ℕ) (values actions reward end : List Token)
+    → tokens ≡ opening ∷ after_opening → after_opening ≡ word (codes "variables") ∷ after_keyword
+    → after_keyword ≡ opening ∷ word name ∷ values ++ closing ∷ after_values → after_values ≡ closing ∷ after_variable
+    → after_variable ≡ actions ++ after_actions → after_actions ≡ word (codes "reward") ∷ after_reward → after_reward ≡ reward ++ settings → settings ≡ end
+    → tokens ≡ from_left name values actions reward end
+spelled_parts tokens o k x c a r t name values actions reward end e1 e2 e3 e4 e5 e6 e7 e8 =
+    let f7 : r ≡ reward ++ end = e7 ∙ ap (λ (ts : List Token). reward ++ ts) e8 in
+    let f6 : a ≡ word (codes "reward") ∷ (reward ++ end) = e6 ∙ ap (λ (ts : List Token). word (codes "reward") ∷ ts) f7 in
+    let f5 : c ≡ actions ++ (word (codes "reward") ∷ (reward ++ end)) = e5 ∙ ap (λ (ts : List Token). actions ++ ts) f6 in
+    let f4 : x ≡ closing ∷ (actions ++ (word (codes "reward") ∷ (reward ++ end))) = e4 ∙ ap (λ (ts : List Token). closing ∷ ts) f5 in
+    e1 ∙ ap (λ (ts : List Token). opening ∷ ts) e2 ∙ ap (λ (ts : List Token). opening ∷ word (codes "variables") ∷ ts) e3
+    ∙ ap (λ (ts : List Token). opening ∷ word (codes "variables") ∷ opening ∷ word name ∷ (values ++ closing ∷ ts)) f4
+
+-- the process of these parts
+abbrev process : Var → List Action → Tree → ℕ × ℕ → Process
+process var actions reward s = record { vars = var ∷ []; dds = []; actions = actions; reward = reward ∷ []; discount = s.0; tolerance = pos s.1 }
+
+means_parts : (var : Var) (tokens : List Token) (a : List Action × List Token) (shape : Shape) (reward : Tree) (others : List Token) (s : ℕ × ℕ)
+    → IsVariable var → length var.values ≤ 64 → (took : TookActions var 64 tokens a) → 1 ≤ length a.0 → AreDistinct (map (λ (x : Action). x.name) a.0)
+    → MeansTree Reward var 300 shape reward → (settings : TookSettings others s)
+    → MeansFile (record { variable = var.name; values = var.values; actions = took.texts; reward = shape; discount = settings.discount; tolerance = settings.tolerance }) (process var a.0 reward s)
+means_parts var tokens a shape reward others s is few took some distinct means settings = record {
+  variable = is.named;
+  values = is.values;
+  values_differ = is.differ;
+  least_values = is.least;
+  most_values = few;
+  vars = refl;
+  dds = refl;
+  actions = took.means;
+  actions_differ = distinct;
+  least_actions = omega (arith, some, took.as_many);
+  most_actions = took.few;
+  reward_tree = reward;
+  reward_means = means;
+  reward = refl;
+  discount = settings.discount_is;
+  below_one = settings.below_one;
+  tolerance_units = s.1;
+  tolerance_means = settings.tolerance_is;
+  tolerance = refl;
+}
+
+-- what a file was read to
+abbrev pub TookFile : List Token → Process → Type 0
+TookFile tokens p = (file : FileText) × (tokens ≡ tokens_of_file file) × MeansFile file p
+
+file_end : (tokens after_opening after_keyword : List Token) (x : Var × List Token) (after_variable : List Token) (a : List Action × List Token)
+    (after_reward : List Token) (t : Tree × List Token) (s : ℕ × ℕ) (p : Process)
+    → tokens ≡ opening ∷ after_opening → after_opening ≡ word (codes "variables") ∷ after_keyword
+    → (after_keyword ≡ opening ∷ word x.0.name ∷ map word x.0.values ++ closing ∷ x.1) × IsVariable x.0 × (length x.0.values ≤ 64)
+    → x.1 ≡ closing ∷ after_variable → TookActions x.0 64 after_variable a × (1 ≤ length a.0) × AreDistinct (map (λ (y : Action). y.name) a.0)
+    → a.1 ≡ word (codes "reward") ∷ after_reward → (shape : Shape) × (after_reward ≡ tokens_of_tree shape ++ t.1) × MeansTree Reward x.0 300 shape t.0
+    → TookSettings t.1 s → process x.0 a.0 t.0 s ≡ p → TookFile tokens p
+file_end tokens first inside x c a r t s p opened keyword is closed actions reward tree settings same =
+    let texts = flat_map tokens_of_action actions.0.texts in
+    let values = map word x.0.values in
+    let end : List Token = word (codes "discount") ∷ word settings.discount ∷ word (codes "tolerance") ∷ word settings.tolerance ∷ [] in
+    let spelled = spelled_parts tokens first inside x.1 c a.1 r t.1 x.0.name values texts (tokens_of_tree tree.0) end
+            opened keyword is.0 closed actions.0.spelled reward tree.1 settings.spelled in
+    subst (TookFile tokens) same (record {
+      variable = x.0.name; values = x.0.values; actions = actions.0.texts; reward = tree.0; discount = settings.discount; tolerance = settings.tolerance
+    }, spelled ∙ regrouped x.0.name values texts (tokens_of_tree tree.0) end,
+    means_parts x.0 c a tree.0 t.0 t.1 s is.1 is.2 actions.0 actions.1 actions.2 tree.2 settings)
+
+-- the rest of a file, behind its values
+file_behind : (tokens after_opening after_keyword : List Token) (x : Var × List Token) (p : Process)
+    → tokens ≡ opening ∷ after_opening → after_opening ≡ word (codes "variables") ∷ after_keyword
+    → (after_keyword ≡ opening ∷ word x.0.name ∷ map word x.0.values ++ closing ∷ x.1) × IsVariable x.0 × (length x.0.values ≤ 64)
+    → (closing_at x.1 >>= λ rest. named_actions_at x.0 rest >>= λ a. keyword_at (codes "reward") a.1 >>= λ after.
+      tree_at Reward x.0 300 after >>= λ reward. settings_at reward.1 >>= λ s. Some (process x.0 a.0 reward.0 s)) ≡ Some p
+    → TookFile tokens p
+file_behind tokens first inside x p opened keyword is e =
+    let var = x.0 in
+    let c = bind_some (closing_at x.1) (λ rest. named_actions_at var rest >>= λ a. keyword_at (codes "reward") a.1 >>= λ after.
+      tree_at Reward var 300 after >>= λ reward. settings_at reward.1 >>= λ s. Some (process var a.0 reward.0 s)) p e in
+    let a = bind_some (named_actions_at var c.0) (λ a. keyword_at (codes "reward") a.1 >>= λ after.
+      tree_at Reward var 300 after >>= λ reward. settings_at reward.1 >>= λ s. Some (process var a.0 reward.0 s)) p c.2 in
+    let r = bind_some (keyword_at (codes "reward") a.0.1) (λ after. tree_at Reward var 300 after >>= λ reward. settings_at reward.1 >>= λ s. Some (process var a.0.0 reward.0 s)) p a.2 in
+    let t = bind_some (tree_at Reward var 300 r.0) (λ reward. settings_at reward.1 >>= λ s. Some (process var a.0.0 reward.0 s)) p r.2 in
+    let s = bind_some (settings_at t.0.1) (λ s. Some (process var a.0.0 t.0.0 s)) p t.2 in
+    file_end tokens first inside x c.0 a.0 r.0 t.0 s.0 p opened keyword is (closing_takes x.1 c.0 c.1) (named_actions_take var c.0 a.0 a.1)
+    (keyword_takes (codes "reward") a.0.1 r.0 r.1) (tree_takes Reward var 300 r.0 t.0 t.1) (settings_take t.0.1 s.0 s.1)
+    (same_Some (process var a.0.0 t.0.0 s.0) p s.2)
+
+-- what is read as a file is spelled so, and means the process
+pub file_takes : (tokens : List Token) (p : Process) → file_at tokens ≡ Some p → TookFile tokens p
+unfolding file_at
+file_takes tokens p e =
+    let behind : Var × List Token → Option Process = λ x.
+      closing_at x.1 >>= λ rest. named_actions_at x.0 rest >>= λ a. keyword_at (codes "reward") a.1 >>= λ after.
+      tree_at Reward x.0 300 after >>= λ reward. settings_at reward.1 >>= λ s. Some (process x.0 a.0 reward.0 s) in
+    let o = bind_some (opening_at tokens) (λ first. keyword_at (codes "variables") first >>= λ inside. variable_at inside >>= behind) p e in
+    let k = bind_some (keyword_at (codes "variables") o.0) (λ inside. variable_at inside >>= behind) p o.2 in
+    let x = bind_some (variable_at k.0) behind p k.2 in
+    file_behind tokens o.0 k.0 x.0 p (opening_takes tokens o.0 o.1) (keyword_takes (codes "variables") o.0 k.0 k.1) (variable_takes k.0 x.0 x.1) x.2
