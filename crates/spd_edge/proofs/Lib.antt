@@ -1,2 +1,3 @@
 pub mod ToldLemmas
 pub mod NamesLemmas
+pub mod MemoryPlaceLemmas

@@ -56,3 +56,5 @@ is_among-remove names name other differ =
       true
       (λ each same. ap not (bytes_eq-other each name (λ is. differ (sym ((bytes_eq-Decides each other).0 same) ∙ is))))
       names
+
+pub ruleset names = (is_among-pushed, is_among-push, is_among-removed, is_among-remove)

@@ -1,4 +1,5 @@
 pub mod Counts
 pub mod Memory
+pub mod MemoryPlace
 pub mod Names
 pub mod Told

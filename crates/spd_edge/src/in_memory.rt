@@ -65,6 +65,35 @@ impl MemIn {
         }
     }
 
+    /// The name under which it was opened.
+    pub fn name(&self) -> &[u8]
+        ensures { result.now ≡ self.now.name }
+    {
+        &self.name
+    }
+
+    /// How many of its reads failed.
+    pub fn faults(&self) -> u64
+        ensures { result ≡ self.now.faults }
+    {
+        self.faults
+    }
+
+    /// The same source under another name.
+    pub(crate) fn renamed(&self, name: &[u8]) -> Result<MemIn, Memory>
+        ensures { IfOk result (λ input. input ≡ record self.now { name = name.now }) }
+    {
+        Ok(MemIn {
+            name: name.to_vec(*self.name.allocator())?,
+            bytes: self.bytes.clone()?,
+            given: self.given,
+            most: self.most,
+            fail: self.fail.clone()?,
+            next: self.next,
+            faults: self.faults,
+        })
+    }
+
     /// Begins a call, and says whether it is one of those that fail.
     fn begin_call(&mut self) -> bool
         ensures fails { result ≡ is_failing self.old.fail self.old.next }

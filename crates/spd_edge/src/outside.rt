@@ -3,6 +3,7 @@ ghost use Rattle.std.specs.Prelude.{◌≡◌, ◌≢◌, ℕ, ◌+◌, ◌-◌,
 ghost use Rattle.spd_edge.specs.Names.{NoneFalls, SameButFor};
 ghost use Rattle.spd_edge.specs.Counts.{Rose};
 ghost use Rattle.spd_edge.specs.Told.{Gave, IsAtEnd, Took};
+ghost use Rattle.spd_edge.specs.declared.outside.Open.TheVariants as Open;
 ghost use Rattle.spd_edge.specs.declared.outside.ReadAll.TheVariants as ReadAll;
 
 use std::alloc::AllocError;
@@ -19,6 +20,14 @@ pub struct Failed;
 pub enum Open {
     Failed,
     Memory,
+}
+
+impl From<AllocError> for Open {
+    ghost from_gives = { λ _ e. e ≡ Open.Memory };
+
+    fn from(_: AllocError) -> Open {
+        Open::Memory
+    }
 }
 
 /// Why the bytes of a source weren't read to their end.

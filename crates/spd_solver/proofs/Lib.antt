@@ -1,3 +1,4 @@
+mod Writing
 pub mod SmallTokens
 pub mod SmallNumbers
 pub mod SmallTrees

@@ -80,7 +80,6 @@ kids_done front slots total is so_far = sym so_far ∙ ap (λ (s : List (Option 
 
 module _ (tree : List Token → Option (Tree × List Token)) (var : Var) (count i : ℕ) (slots : List (Option Tree)) (tokens : List Token)
     (total : Option (List (Option Tree) × List Token)) (so_far : branches_at tree var (count - i) slots tokens ≡ total) where
-
   pub branches_done : count ≤ i → total ≡ Some (slots, tokens)
   unfolding branches_at
   branches_done none_left =

@@ -1,6 +1,10 @@
+pub mod Words
+pub mod Message
+pub mod Pieces
 pub mod SmallToken
 pub mod SmallSeen
 pub mod SmallSyntax
 pub mod Small
 pub mod SmallReading
 pub mod SmallContents
+pub mod Run

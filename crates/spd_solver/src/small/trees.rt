@@ -145,7 +145,12 @@ impl TreeReader<'_> {
     /// What stands between the head of a tree and the end of its brackets.
     #[cycle(nest)]
     #[tactic(auto, unfolding(crate::specs::SmallReading::inside_at))]
-    fn choice<'b>(&self, depth: u32, text: &[u8], bytes: &'b [u8]) -> Result<(Tree, &'b [u8]), Unread>
+    fn choice<'b>(
+        &self,
+        depth: u32,
+        text: &[u8],
+        bytes: &'b [u8],
+    ) -> Result<(Tree, &'b [u8]), Unread>
         ensures { Gives (λ x. (x.0, tokens_of x.1.now)) result (inside_at (tree_at self.now.role self.now.var.now depth) self.now.role self.now.var.now text.now (tokens_of bytes.now)) }
     {
         let primed = head(self.role, self.var, text)?;
@@ -164,7 +169,11 @@ impl TreeReader<'_> {
 
     /// As many branches as the variable has values, each in the place of its value.
     #[cycle(nest)]
-    fn branches<'b>(&self, depth: u32, bytes: &'b [u8]) -> Result<(Vec<Option<Tree>>, &'b [u8]), Unread>
+    fn branches<'b>(
+        &self,
+        depth: u32,
+        bytes: &'b [u8],
+    ) -> Result<(Vec<Option<Tree>>, &'b [u8]), Unread>
         ensures { Gives (λ x. (x.0.items, tokens_of x.1.now)) result (branches_at (tree_at self.now.role self.now.var.now depth) self.now.var.now (length self.now.var.now.values) (replicate (length self.now.var.now.values) None) (tokens_of bytes.now)) }
     {
         let count = self.var.values.len();

@@ -1,0 +1,13 @@
+-- Pieces of a text, and a sink that took the front of a text.
+use Rattle.std.specs.Prelude.{ℕ, ◌≤◌, List, [], ◌∷◌, ◌++◌, length, take, Option}
+use Rattle.std.specs.Borrow.{Bor}
+use Rattle.spd_edge.specs.Told.{Took}
+
+-- the text of pieces, one after another
+abbrev pub joined : List (Bor (List ℕ)) → List ℕ
+joined [] = []
+joined (piece ∷ pieces) = piece.now ++ joined pieces
+
+-- a sink took the first n bytes of a text, for some n
+abbrev pub TookFront : Option (List ℕ) → List ℕ → Option (List ℕ) → Type 0
+TookFront before text now = (n : ℕ) × (n ≤ length text) × Took before (take n text) now
