@@ -7,3 +7,9 @@ pub mod TextNodeLines
 pub mod TextDiagrams
 pub mod TextTables
 pub mod TextWhole
+pub mod SmallFiles
+pub mod SmallSteps
+pub mod SmallNumberLaws
+pub mod SmallTreeLaws
+pub mod SmallTreesTaken
+pub mod SmallFilesTaken

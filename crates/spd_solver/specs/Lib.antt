@@ -6,6 +6,7 @@ pub mod SmallSeen
 pub mod SmallSyntax
 pub mod Small
 pub mod SmallReading
+pub mod SmallContents
 pub mod Run
 pub mod TextParts
 pub mod TextNodes

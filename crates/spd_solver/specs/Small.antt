@@ -1,9 +1,11 @@
 -- The small form of a model file: which files it has, and to which process each is read.
-use Rattle.std.specs.Prelude.{ℕ, zero, suc, ◌+◌, ◌-◌, ◌*◌, ◌^◌, ◌<◌, ◌≤◌, ◌≡◌, ◌==◌, nat_le, ◌&&◌, ◌||◌, not, Bool, true, false, IsTrue, List, [], ◌∷◌, ◌++◌, length, map, slice_get, slice_index, Option, Some, None, ℤ, pos, codes}
-use Rattle.std.specs.List.{list_all, list_any, position}
-use Rattle.std.specs.Char.{is_ascii_alphabetic, is_ascii_alphanumeric, is_ascii_digit}
+use Rattle.std.specs.Prelude.{ℕ, zero, suc, ◌+◌, ◌-◌, ◌*◌, ◌^◌, ◌<◌, ◌≤◌, ◌≡◌, Bool, true, false, IsTrue, List, [], ◌∷◌, ◌++◌, length, map, slice_get, Option, Some, None, ℤ, pos}
+use Rattle.std.specs.List.{All, list_all, position}
+use Rattle.std.specs.Char.{is_ascii_digit}
 use Rattle.std.specs.Str.{bytes_eq}
 use Rattle.std.specs.Str.Parse.{digits_value}
+use Rattle.spd_model.specs.Names.{is_name, is_value_name}
+use Rattle.spd_model.specs.Lawful.{AreDistinct}
 use Rattle.spd_model.specs.Process.{Process}
 use Rattle.spd_model.specs.declared.tree.Tree.{Tree, Leaf, Branch}
 use Rattle.spd_model.specs.declared.process.Var.{Var}
@@ -12,41 +14,6 @@ use Rattle.spd_solver.specs.declared.small.trees.Role.{Role}
 use Rattle.spd_solver.specs.declared.small.trees.Role.TheVariants.{Table, Reward}
 use Rattle.spd_solver.specs.SmallToken.{tokens_of}
 use Rattle.spd_solver.specs.SmallSyntax.{Shape, number, choice, Branches, none, branch, ActionText, FileText, tokens_of_file}
-
--- ---- names
-
--- the words of the grammar, which are no names
-abbrev pub reserved : List (List ℕ)
-reserved = codes "variables" ∷ codes "dd" ∷ codes "enddd" ∷ codes "action" ∷ codes "endaction" ∷ codes "cost" ∷ codes "reward" ∷ codes "discount" ∷ codes "tolerance" ∷ []
-
--- a letter or `_`
-abbrev pub begins_name : ℕ → Bool
-begins_name byte = is_ascii_alphabetic byte || byte == 95
-
--- a letter, a digit, `_` or `-`
-abbrev pub is_name_byte : ℕ → Bool
-is_name_byte byte = is_ascii_alphanumeric byte || byte == 95 || byte == 45
-
--- at most 64 letters, digits, `_` and `-`, the first a letter or `_`, and no word of the grammar
-unfoldable pub is_name : List ℕ → Bool
-is_name text = begins_name (slice_index text 0) && list_all is_name_byte text && nat_le (length text) 64 && not (list_any (bytes_eq text) reserved)
-
--- a letter, a digit, `_`, `-` or `.`
-abbrev pub is_value_byte : ℕ → Bool
-is_value_byte byte = is_name_byte byte || byte == 46
-
--- a letter, a digit or `_`
-abbrev pub begins_value : ℕ → Bool
-begins_value byte = is_ascii_alphanumeric byte || byte == 95
-
--- at most 64 letters, digits, `_`, `-` and `.`, the first a letter, a digit or `_`
-unfoldable pub is_value : List ℕ → Bool
-is_value text = begins_value (slice_index text 0) && list_all is_value_byte text && nat_le (length text) 64
-
--- no two texts are the same
-abbrev pub are_distinct : List (List ℕ) → Bool
-are_distinct [] = true
-are_distinct (text ∷ texts) = not (list_any (bytes_eq text) texts) && are_distinct texts
 
 -- ---- numbers
 
@@ -97,7 +64,7 @@ abbrev mutual
   MeansTree role var (suc depth) (number text) tree = (n : ℕ) × IsNumber (most_digits role) 12 text n × (tree ≡ Leaf (pos n))
   MeansTree role var (suc depth) (choice text branches) tree =
       (primed : Bool) × (kids : List Tree) × IsHead role var text primed × (tree ≡ Branch 0 primed kids) × (length kids ≡ length var.values)
-      × (length (named branches) ≡ length var.values) × IsTrue (are_distinct (named branches)) × MeansKids role var depth branches kids
+      × (length (named branches) ≡ length var.values) × AreDistinct (named branches) × MeansKids role var depth branches kids
 
   pub MeansKids : Role → Var → ℕ → Branches → List Tree → Type 0
   MeansKids role var depth none kids = Unit {0}
@@ -117,14 +84,14 @@ MeansActions var (text ∷ texts) actions =
 -- A file means a process of one variable.
 pub record MeansFile (file : FileText) (p : Process) : Type 0 where
   pub variable : IsTrue (is_name file.variable)
-  pub values : IsTrue (list_all is_value file.values)
-  pub values_differ : IsTrue (are_distinct file.values)
+  pub values : All (λ value. IsTrue (is_value_name value)) file.values
+  pub values_differ : AreDistinct file.values
   pub least_values : 2 ≤ length file.values
   pub most_values : length file.values ≤ 64
   pub vars : p.vars ≡ record { name = file.variable; values = file.values } ∷ []
   pub dds : p.dds ≡ []
   pub actions : MeansActions (record { name = file.variable; values = file.values }) file.actions p.actions
-  pub actions_differ : IsTrue (are_distinct (map (λ (a : Action). a.name) p.actions))
+  pub actions_differ : AreDistinct (map (λ (a : Action). a.name) p.actions)
   pub least_actions : 1 ≤ length file.actions
   pub most_actions : length file.actions ≤ 64
   pub reward_tree : Tree

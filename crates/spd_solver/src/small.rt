@@ -1,5 +1,6 @@
 //! The reader of the small form of a model file: one variable, tables without cost.
 
+mod file;
 mod lexer;
 mod trees;
 mod unread;

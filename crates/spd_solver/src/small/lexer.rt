@@ -96,25 +96,37 @@ pub(crate) fn open(bytes: &[u8]) -> Result<&[u8], Unread>
     }
 }
 
+/// The word that stands next, where one does, and the bytes after it.
+#[tactic(auto, unfolding(crate::specs::SmallReading::word_at))]
+pub(crate) fn next_word(bytes: &[u8]) -> Option<(&[u8], &[u8])>
+    ensures { option_map (λ x. (x.0.now, tokens_of x.1.now)) result ≡ word_at (tokens_of bytes.now) }
+{
+    match token_at(bytes) {
+        Some((Token::Word(word), rest)) => Some((word, rest)),
+        _ => None,
+    }
+}
+
 /// A word, and the bytes after it.
 #[tactic(auto, unfolding(crate::specs::SmallReading::word_at))]
 pub(crate) fn word(bytes: &[u8]) -> Result<(&[u8], &[u8]), Unread>
     ensures { Gives (λ x. (x.0.now, tokens_of x.1.now)) result (word_at (tokens_of bytes.now)) }
 {
-    match token_at(bytes) {
-        Some((Token::Word(word), rest)) => Ok((word, rest)),
-        _ => Err(Unread::Refused),
-    }
+    next_word(bytes).ok_or(Unread::Refused)
+}
+
+/// The bytes after this word, where it stands next.
+#[tactic(auto, unfolding(crate::specs::SmallReading::keyword_at))]
+pub(crate) fn after_keyword<'a>(keyword: &[u8], bytes: &'a [u8]) -> Option<&'a [u8]>
+    ensures { option_map (λ rest. tokens_of rest.now) result ≡ keyword_at keyword.now (tokens_of bytes.now) }
+{
+    let (found, rest) = next_word(bytes)?;
+    if found == keyword { Some(rest) } else { None }
 }
 
 /// The bytes after this word.
-#[tactic(auto, unfolding(crate::specs::SmallReading::keyword_at))]
 pub(crate) fn keyword<'a>(keyword: &[u8], bytes: &'a [u8]) -> Result<&'a [u8], Unread>
     ensures { Gives (λ rest. tokens_of rest.now) result (keyword_at keyword.now (tokens_of bytes.now)) }
 {
-    let (found, rest) = word(bytes)?;
-    if found != keyword {
-        return Err(Unread::Refused);
-    }
-    Ok(rest)
+    after_keyword(keyword, bytes).ok_or(Unread::Refused)
 }

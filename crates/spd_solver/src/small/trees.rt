@@ -117,6 +117,7 @@ fn kids(alloc: Global, slots: Vec<Option<Tree>>) -> Result<Kids, Unread>
 }
 
 /// Reads the trees of one role over one variable.
+#[derive(Drop)]
 pub(crate) struct TreeReader<'v> {
     pub alloc: Global,
     pub role: Role,

@@ -1,9 +1,10 @@
 //! Words: names, values and numbers.
 
-ghost use Rattle.std.specs.Prelude.{◌≡◌, ◌<◌, ◌≤◌, ◌^◌, ◌*◌, length, map, IfSome, IfOk, ◌==◌, ◌+◌};
+ghost use Rattle.std.specs.Prelude.{◌≡◌, ◌<◌, ◌≤◌, ◌^◌, ◌*◌, length, map, IfSome, IfOk, ◌==◌, ◌||◌, ◌+◌};
 ghost use Rattle.std.specs.Str.{bytes_eq};
 ghost use Rattle.std.specs.List.{list_any, list_all, position};
-ghost use Rattle.spd_solver.specs.Small.{reserved, begins_name, is_name_byte, is_value_byte, is_name, begins_value, is_value, are_distinct};
+ghost use Rattle.std.specs.Char.{is_ascii_alphanumeric};
+ghost use Rattle.spd_model.specs.Names.{reserved_words, has_name_form, is_name, has_value_form, is_value_name};
 ghost use Rattle.spd_solver.specs.SmallReading.{Gives, parts_of, digits_of, scaled, number_of};
 
 use crate::small::unread::Unread;
@@ -29,63 +30,67 @@ fn is_among(word: &[u8], words: &[&[u8]]) -> bool
 }
 
 fn is_reserved(word: &[u8]) -> bool
-    ensures { result ≡ list_any (bytes_eq word.now) reserved }
+    ensures { result ≡ list_any (bytes_eq word.now) reserved_words }
 {
     is_among(word, &RESERVED)
 }
 
 fn is_name_byte(byte: u8) -> bool
-    ensures { result ≡ is_name_byte byte }
+    ensures { result ≡ (is_ascii_alphanumeric byte || (byte == 95 || byte == 45)) }
 {
     byte.is_ascii_alphanumeric() || byte == b'_' || byte == b'-'
 }
 
-fn are_name_bytes(word: &[u8]) -> bool
-    ensures { result ≡ list_all is_name_byte word.now }
+fn are_name_bytes(bytes: &[u8]) -> bool
+    ensures { result ≡ list_all (λ d. is_ascii_alphanumeric d || (d == 95 || d == 45)) bytes.now }
 {
-    word.iter().all(|byte| is_name_byte(*byte))
+    bytes.iter().all(|byte| is_name_byte(*byte))
 }
 
-fn are_value_bytes(word: &[u8]) -> bool
-    ensures { result ≡ list_all is_value_byte word.now }
+/// A letter or `_`, then letters, digits, `_` and `-`.
+fn has_name_form(word: &[u8]) -> bool
+    ensures { result ≡ has_name_form word.now }
 {
-    word.iter().all(|byte| is_name_byte(*byte) || *byte == b'.')
+    match word {
+        [] => false,
+        [first, others @ ..] => {
+            (first.is_ascii_alphabetic() || *first == b'_') && are_name_bytes(others)
+        }
+    }
 }
 
-fn begins_name(byte: u8) -> bool
-    ensures { result ≡ begins_name byte }
-{
-    byte.is_ascii_alphabetic() || byte == b'_'
-}
-
-/// Whether the word is a name: at most 64 letters, digits, `_` and `-`, the first a letter or `_`,
-/// and no word of the grammar.
-#[tactic(auto, unfolding(crate::specs::Small::is_name))]
+/// Whether the word is a name of a variable or an action: at most 64 letters, digits, `_` and `-`, the
+/// first a letter or `_`, and no word of the grammar.
 pub(crate) fn is_name(word: &[u8]) -> bool
     ensures { result ≡ is_name word.now }
 {
-    if word.is_empty() || word.len() > 64 || is_reserved(word) {
-        return false;
-    }
-    begins_name(word[0]) && are_name_bytes(word)
+    has_name_form(word) && word.len() <= 64 && !is_reserved(word)
 }
 
-fn begins_value(byte: u8) -> bool
-    ensures { result ≡ begins_value byte }
+fn are_value_bytes(bytes: &[u8]) -> bool
+    ensures { result ≡ list_all (λ d. is_ascii_alphanumeric d || (d == 95 || (d == 45 || d == 46))) bytes.now }
 {
-    byte.is_ascii_alphanumeric() || byte == b'_'
+    bytes.iter().all(|byte| is_name_byte(*byte) || *byte == b'.')
 }
 
-/// Whether the word is a value: at most 64 letters, digits, `_`, `-` and `.`, the first a letter,
-/// a digit or `_`.
-#[tactic(auto, unfolding(crate::specs::Small::is_value))]
-pub(crate) fn is_value(word: &[u8]) -> bool
-    ensures { result ≡ is_value word.now }
+/// A letter, a digit or `_`, then letters, digits, `_`, `-` and `.`.
+fn has_value_form(word: &[u8]) -> bool
+    ensures { result ≡ has_value_form word.now }
 {
-    if word.is_empty() || word.len() > 64 {
-        return false;
+    match word {
+        [] => false,
+        [first, others @ ..] => {
+            (first.is_ascii_alphanumeric() || *first == b'_') && are_value_bytes(others)
+        }
     }
-    begins_value(word[0]) && are_value_bytes(word)
+}
+
+/// Whether the word is a name of a value: at most 64 letters, digits, `_`, `-` and `.`, the first a
+/// letter, a digit or `_`.
+pub(crate) fn is_value_name(word: &[u8]) -> bool
+    ensures { result ≡ is_value_name word.now }
+{
+    has_value_form(word) && word.len() <= 64
 }
 
 fn point_in(word: &[u8]) -> Option<usize>
