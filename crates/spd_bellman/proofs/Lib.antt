@@ -1,3 +1,4 @@
 pub mod Sums
 pub mod Expectations
 pub mod Returns
+pub mod Bounds

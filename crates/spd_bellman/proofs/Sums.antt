@@ -1,7 +1,7 @@
 -- Sums over the numbers below a bound, and over all states.
 use Rattle.std.proofs.Common.{◌≡◌, ℕ, zero, suc, ◌<◌, List, [], ◌∷◌, ℤ, pos, ◌+ℤ◌, ◌*ℤ◌, ◌≤ℤ◌, refl, ap, sym, ◌∙◌, arith}
 use Rattle.std.proofs.lemmas.Int.{ints}
-use Rattle.spd_scaled.proofs.Ring.{ring, *ℤ-zero, *ℤ-+ℤ}
+use Rattle.spd_scaled.proofs.Ring.{ring, *ℤ-zero, *ℤ-+ℤ, *ℤ_swap}
 use Rattle.spd_model.specs.Numbers.{sum_below}
 use Rattle.spd_model.specs.States.{IsState, sum_over_states}
 
@@ -65,6 +65,14 @@ sum_over_states_swap [] n f = refl
 sum_over_states_swap (size ∷ sizes) n f =
     sum_below-cong size _ _ (λ u p. sum_over_states_swap sizes n (λ v t. f v (u ∷ t)))
     ∙ sum_below_swap size n (λ u v. sum_over_states sizes (λ t. f v (u ∷ t)))
+
+-- a factor of every weighted term
+pub sum_over_states-*ℤ : (sizes : List ℕ) (x : ℤ) (j f : List ℕ → ℤ)
+    → sum_over_states sizes (λ t. j t *ℤ (x *ℤ f t)) ≡ x *ℤ sum_over_states sizes (λ t. j t *ℤ f t)
+sum_over_states-*ℤ [] x j f = *ℤ_swap (j []) x (f [])
+sum_over_states-*ℤ (size ∷ sizes) x j f =
+    sum_below-cong size _ _ (λ v p. sum_over_states-*ℤ sizes x (λ t. j (v ∷ t)) (λ t. f (v ∷ t)))
+    ∙ sum_below-*ℤ size x (λ v. sum_over_states sizes (λ t. j (v ∷ t) *ℤ f (v ∷ t)))
 
 affine_step : (x y a b c e : ℤ) → x *ℤ a +ℤ y *ℤ b +ℤ (x *ℤ c +ℤ y *ℤ e) ≡ x *ℤ (a +ℤ c) +ℤ y *ℤ (b +ℤ e)
 affine_step x y a b c e = simp ring (omega (arith, ints))

@@ -1,0 +1,192 @@
+-- What a certificate that holds says of every course, of the policy, and of every number of steps.
+use Rattle.std.proofs.Common.{◌≡◌, ℕ, zero, suc, ◌+◌, ◌-◌, ◌*◌, ◌^◌, ◌<◌, ◌≤◌, List, [], ◌∷◌, length, get_or, Contains, ℤ, pos, ◌+ℤ◌, ◌-ℤ◌, ◌*ℤ◌, ◌≤ℤ◌, ◌<ℤ◌, ◌⊎◌, inl, inr, refl, ap, sym, ◌∙◌, subst, subst₂, arith}
+use Rattle.std.specs.Prelude.{slice_get, Option, Some, None}
+use Rattle.std.proofs.lemmas.Int.{ints}
+use Rattle.std.proofs.Math.Nat.{pow-zero, pow-suc, one-le-pow}
+use Rattle.std.proofs.lemmas.Bool.{cases_lt}
+use Rattle.std.proofs.lemmas.Option.{slice_get_within, get_or_from_slice_get}
+use Rattle.spd_scaled.proofs.Ring.{ring, *ℤ_comm, *ℤ_mono_right, *ℤ_nonnegative, *ℤ_cancel_≤ℤ, ≤ℤ_trans}
+use Rattle.spd_model.specs.declared.process.Action.{Action}
+use Rattle.spd_model.specs.Process.{Process}
+use Rattle.spd_model.specs.States.{sizes, IsState, sum_over_states}
+use Rattle.spd_model.specs.Chances.{IsValid, reward_of, joint, scale_of}
+use Rattle.spd_model.specs.Backup.{low_of, high_of}
+use Rattle.spd_bellman.specs.Courses.{Course, stop, act, exact_return, return_of_course, IsPolicy, return_of_policy}
+use Rattle.spd_bellman.specs.Certificate.{Holds}
+use Rattle.spd_bellman.specs.Bound.{IsWithinError, IsBoundAbove, IsBoundBelow}
+use Rattle.spd_bellman.proofs.Sums.{sum_over_states_mono, sum_over_states-*ℤ, sum_over_states_affine}
+use Rattle.spd_bellman.proofs.Expectations.{scale_by}
+use Rattle.spd_bellman.proofs.Returns.{joint_nonnegative, joint-sum, low_encloses, high_encloses}
+
+-- ---- the step from n to n + 1 steps, in whole numbers
+
+-- e is one minus the discount g, in parts of d; p is one, as a joint probability; q is the scale of n steps. `next` and `worth` are the
+-- expectations, over the next states, of the return of n steps and of the value.
+step_above : (e g d p q r reward next value worth : ℤ) → d ≡ g +ℤ e
+    → (g *ℤ (e *ℤ next)) ≤ℤ (g *ℤ ((e *ℤ q) *ℤ worth +ℤ (r *ℤ (d *ℤ q)) *ℤ p))
+    → ((e *ℤ q) *ℤ ((d *ℤ p) *ℤ reward +ℤ g *ℤ worth)) ≤ℤ ((e *ℤ q) *ℤ ((d *ℤ p) *ℤ (value +ℤ r)))
+    → (e *ℤ ((q *ℤ (d *ℤ p)) *ℤ reward +ℤ g *ℤ next)) ≤ℤ ((e *ℤ (q *ℤ (d *ℤ p))) *ℤ value +ℤ r *ℤ (d *ℤ (q *ℤ (d *ℤ p))))
+step_above e g d p q r reward next value worth is h k =
+    let h' = simp ring at (rw is at h) in let k' = simp ring at (rw is at k) in rw is (simp ring (omega (arith, ints)))
+
+step_below : (e g d p q r reward next value worth : ℤ) → d ≡ g +ℤ e
+    → (g *ℤ ((e *ℤ q) *ℤ worth)) ≤ℤ (g *ℤ (e *ℤ next +ℤ (r *ℤ (d *ℤ q)) *ℤ p))
+    → ((e *ℤ q) *ℤ ((d *ℤ p) *ℤ value)) ≤ℤ ((e *ℤ q) *ℤ ((d *ℤ p) *ℤ reward +ℤ g *ℤ worth +ℤ (d *ℤ p) *ℤ r))
+    → ((e *ℤ (q *ℤ (d *ℤ p))) *ℤ value) ≤ℤ (e *ℤ ((q *ℤ (d *ℤ p)) *ℤ reward +ℤ g *ℤ next) +ℤ r *ℤ (d *ℤ (q *ℤ (d *ℤ p))))
+step_below e g d p q r reward next value worth is h k =
+    let h' = simp ring at (rw is at h) in let k' = simp ring at (rw is at k) in rw is (simp ring (omega (arith, ints)))
+
+-- ---- a certificate at a state
+
+-- a gain by the residual, as the upper and the lower bound of an action say it
+raised : (k x high value r : ℤ) → pos 0 ≤ℤ k → x ≤ℤ (k *ℤ high) → (high -ℤ value) ≤ℤ r → x ≤ℤ (k *ℤ (value +ℤ r))
+raised k x high value r some h l =
+    let more = *ℤ_mono_right k high (value +ℤ r) some (omega (arith, ints)) in omega (arith, ints)
+
+lowered : (k x low value r : ℤ) → pos 0 ≤ℤ k → (k *ℤ low) ≤ℤ x → (value -ℤ low) ≤ℤ r → (k *ℤ value) ≤ℤ (x +ℤ k *ℤ r)
+lowered k x low value r some h l =
+    let more = *ℤ_mono_right k value (low +ℤ r) some (omega (arith, ints)) in
+    let parts : k *ℤ (low +ℤ r) ≡ k *ℤ low +ℤ k *ℤ r = simp ring in
+    omega (arith, ints)
+
+pub natural_nonnegative : (n : ℕ) → pos 0 ≤ℤ pos n
+natural_nonnegative n = omega (arith, ints)
+
+halved : (low high value r k x : ℤ) → pos 0 <ℤ k → (k *ℤ low) ≤ℤ x → x ≤ℤ (k *ℤ high) → (high -ℤ value) ≤ℤ r → (value -ℤ low) ≤ℤ r → pos 0 ≤ℤ r
+halved low high value r k x some h l above below =
+    let ordered = *ℤ_cancel_≤ℤ low high k some (rw (*ℤ_comm low k, *ℤ_comm high k) (≤ℤ_trans (k *ℤ low) x (k *ℤ high) h l)) in
+    omega (arith, ints)
+
+-- ---- the ends of the induction
+
+begun_above : (e value r d : ℤ) → pos 0 ≤ℤ r → pos 0 ≤ℤ d → (e *ℤ value) ≤ℤ ((e *ℤ pos 1) *ℤ value +ℤ r *ℤ (d *ℤ pos 1))
+begun_above e value r d some parts = let error = *ℤ_nonnegative r d some parts in simp ring (omega (arith, ints))
+
+begun_below : (e value r d : ℤ) → pos 0 ≤ℤ r → pos 0 ≤ℤ d → ((e *ℤ pos 1) *ℤ value) ≤ℤ (e *ℤ value +ℤ r *ℤ (d *ℤ pos 1))
+begun_below e value r d some parts = let error = *ℤ_nonnegative r d some parts in simp ring (omega (arith, ints))
+
+ended_above : (e q value r d x : ℤ) → (e *ℤ x) ≤ℤ ((e *ℤ q) *ℤ value +ℤ r *ℤ (d *ℤ q)) → (e *ℤ (x -ℤ q *ℤ value)) ≤ℤ (r *ℤ d *ℤ q)
+ended_above e q value r d x h = let h' = simp ring at h in simp ring (omega (arith, ints))
+
+ended_below : (e q value r d x : ℤ) → ((e *ℤ q) *ℤ value) ≤ℤ (e *ℤ x +ℤ r *ℤ (d *ℤ q)) → (e *ℤ (q *ℤ value -ℤ x)) ≤ℤ (r *ℤ d *ℤ q)
+ended_below e q value r d x h = let h' = simp ring at h in simp ring (omega (arith, ints))
+
+-- ---- an action by its number
+
+numbered : {X : Type 0} (xs : List X) (k : ℕ) → k < length xs → (x : X) × (slice_get xs k ≡ Some x)
+numbered [] k near = absurd (omega arith)
+numbered (x ∷ xs) zero near = (x, refl)
+numbered (x ∷ xs) (suc k) near = numbered xs k (omega arith)
+
+offered_by : (m : Process) (k : ℕ) (a : Action) → slice_get m.actions k ≡ Some a → Contains m.actions a
+offered_by m k a is = (k, slice_get_within m.actions k a is, get_or_from_slice_get m.actions k a a is)
+
+scale_positive : (n : ℕ) → pos 0 <ℤ pos (10 ^ 6 * (10 ^ 12) ^ n)
+scale_positive n = let power : 1 ≤ (10 ^ 12) ^ n = one-le-pow n (10 ^ 12) (omega arith) in omega (arith, ints)
+
+-- ---- every course, and the policy
+
+module _ (m : Process) (valid : IsValid m) (w : List ℕ → ℤ) (policy : List ℕ → ℕ) (r : ℤ) (is_policy : IsPolicy m policy) (holds : Holds m w policy r) where
+  -- one minus the discount, in parts of 10^6
+  abbrev rest_of : ℤ
+  rest_of = pos (1000000 - m.discount)
+
+  -- what one unit counts in n steps
+  abbrev scale : ℕ → ℤ
+  scale n = pos (scale_of m ^ n)
+
+  -- how far a return of n steps may pass the value
+  abbrev error : ℕ → ℤ
+  error n = r *ℤ (pos 1000000 *ℤ scale n)
+
+  -- the expectation of f over the next states
+  abbrev expected : Action → List ℕ → (List ℕ → ℤ) → ℤ
+  expected a s f = sum_over_states (sizes m) (λ t. joint m a s t *ℤ f t)
+
+  scale-zero : pos 1 ≡ scale 0
+  scale-zero = sym (ap pos (pow-zero (scale_of m)))
+
+  scale-suc : (n : ℕ) → scale n *ℤ (pos 1000000 *ℤ scale_by (length m.vars)) ≡ scale (suc n)
+  scale-suc n = sym (ap pos (pow-suc (scale_of m) n))
+
+  weight_nonnegative : (n : ℕ) → pos 0 ≤ℤ (rest_of *ℤ scale n)
+  weight_nonnegative n = *ℤ_nonnegative rest_of (scale n) (natural_nonnegative (1000000 - m.discount)) (natural_nonnegative (scale_of m ^ n))
+
+  residual_nonnegative : (s : List ℕ) → IsState (sizes m) s → pos 0 ≤ℤ r
+  residual_nonnegative s is =
+      let chosen = numbered m.actions (policy s) (is_policy s is) in
+      let offered = offered_by m (policy s) chosen.0 chosen.1 in
+      halved (low_of m w chosen.0 s) (high_of m w chosen.0 s) (w s) r (pos (scale_of m)) (exact_return m (scale_of m) w chosen.0 s) (scale_positive (length m.vars))
+      (low_encloses m valid chosen.0 offered s is w) (high_encloses m valid chosen.0 offered s is w)
+      (holds.above s is chosen.0 offered) (holds.below s is chosen.0 chosen.1)
+
+  -- one step by an action, before returns of n steps that keep their bound
+  module _ (discounted : m.discount ≤ 1000000) (n : ℕ) (next : List ℕ → ℤ) (a : Action) (offered : Contains m.actions a) (s : List ℕ) (is : IsState (sizes m) s) where
+    whole : pos 1000000 ≡ pos m.discount +ℤ rest_of
+    whole = omega (arith, ints)
+
+    -- the expectation of x times f plus the error
+    with_error : (x : ℤ) (f : List ℕ → ℤ) → sum_over_states (sizes m) (λ t. joint m a s t *ℤ (x *ℤ f t +ℤ error n)) ≡ x *ℤ expected a s f +ℤ error n *ℤ scale_by (length m.vars)
+    with_error x f = sum_over_states_affine (sizes m) x (error n) (joint m a s) f ∙ ap (λ y. x *ℤ expected a s f +ℤ error n *ℤ y) (joint-sum m valid a offered s is)
+
+    in_order : (f g : List ℕ → ℤ) → ((t : List ℕ) → IsState (sizes m) t → f t ≤ℤ g t) → expected a s f ≤ℤ expected a s g
+    in_order f g below = sum_over_states_mono (sizes m) _ _ (λ t there. *ℤ_mono_right (joint m a s t) _ _ (joint_nonnegative m valid a offered s is t there) (below t there))
+
+    one_more_above : ((t : List ℕ) → IsState (sizes m) t → (rest_of *ℤ next t) ≤ℤ ((rest_of *ℤ scale n) *ℤ w t +ℤ error n))
+        → (rest_of *ℤ exact_return m (scale_of m ^ suc n) next a s) ≤ℤ ((rest_of *ℤ scale (suc n)) *ℤ w s +ℤ error (suc n))
+    one_more_above below =
+        let weighed = subst₂ (λ x y. x ≤ℤ y) (sum_over_states-*ℤ (sizes m) rest_of (joint m a s) next) (with_error (rest_of *ℤ scale n) w) (in_order _ _ below) in
+        subst (λ k. (rest_of *ℤ (k *ℤ reward_of m a s +ℤ pos m.discount *ℤ expected a s next)) ≤ℤ ((rest_of *ℤ k) *ℤ w s +ℤ r *ℤ (pos 1000000 *ℤ k))) (scale-suc n)
+        (step_above rest_of (pos m.discount) (pos 1000000) (scale_by (length m.vars)) (scale n) r (reward_of m a s) (expected a s next) (w s) (expected a s w) whole
+        (*ℤ_mono_right (pos m.discount) _ _ (natural_nonnegative m.discount) weighed)
+        (*ℤ_mono_right (rest_of *ℤ scale n) _ _ (weight_nonnegative n)
+        (raised (pos (scale_of m)) (exact_return m (scale_of m) w a s) (high_of m w a s) (w s) r (natural_nonnegative (scale_of m)) (high_encloses m valid a offered s is w) (holds.above s is a offered))))
+
+    one_more_below : slice_get m.actions (policy s) ≡ Some a → ((t : List ℕ) → IsState (sizes m) t → ((rest_of *ℤ scale n) *ℤ w t) ≤ℤ (rest_of *ℤ next t +ℤ error n))
+        → ((rest_of *ℤ scale (suc n)) *ℤ w s) ≤ℤ (rest_of *ℤ exact_return m (scale_of m ^ suc n) next a s +ℤ error (suc n))
+    one_more_below chosen above =
+        let weighed = subst₂ (λ x y. x ≤ℤ y) (sum_over_states-*ℤ (sizes m) (rest_of *ℤ scale n) (joint m a s) w) (with_error rest_of next) (in_order _ _ above) in
+        subst (λ k. ((rest_of *ℤ k) *ℤ w s) ≤ℤ (rest_of *ℤ (k *ℤ reward_of m a s +ℤ pos m.discount *ℤ expected a s next) +ℤ r *ℤ (pos 1000000 *ℤ k))) (scale-suc n)
+        (step_below rest_of (pos m.discount) (pos 1000000) (scale_by (length m.vars)) (scale n) r (reward_of m a s) (expected a s next) (w s) (expected a s w) whole
+        (*ℤ_mono_right (pos m.discount) _ _ (natural_nonnegative m.discount) weighed)
+        (*ℤ_mono_right (rest_of *ℤ scale n) _ _ (weight_nonnegative n)
+        (lowered (pos (scale_of m)) (exact_return m (scale_of m) w a s) (low_of m w a s) (w s) r (natural_nonnegative (scale_of m)) (low_encloses m valid a offered s is w) (holds.below s is a chosen))))
+
+  module _ (discounted : m.discount ≤ 1000000) where
+    course_below : {n : ℕ} (course : Course m n) (s : List ℕ) → IsState (sizes m) s
+        → (rest_of *ℤ return_of_course m w course s) ≤ℤ ((rest_of *ℤ scale n) *ℤ w s +ℤ error n)
+    course_below stop s is =
+        subst (λ k. (rest_of *ℤ w s) ≤ℤ ((rest_of *ℤ k) *ℤ w s +ℤ r *ℤ (pos 1000000 *ℤ k))) scale-zero
+        (begun_above rest_of (w s) r (pos 1000000) (residual_nonnegative s is) (natural_nonnegative 1000000))
+    course_below (act {n} a offered next) s is =
+        one_more_above discounted n (λ t. return_of_course m w (next t) t) a offered s is (λ t there. course_below (next t) t there)
+
+    policy_above : (n : ℕ) (s : List ℕ) → IsState (sizes m) s
+        → ((rest_of *ℤ scale n) *ℤ w s) ≤ℤ (rest_of *ℤ return_of_policy m w policy n s +ℤ error n)
+    policy_above zero s is =
+        subst (λ k. ((rest_of *ℤ k) *ℤ w s) ≤ℤ (rest_of *ℤ w s +ℤ r *ℤ (pos 1000000 *ℤ k))) scale-zero
+        (begun_below rest_of (w s) r (pos 1000000) (residual_nonnegative s is) (natural_nonnegative 1000000))
+    policy_above (suc n) s is =
+        let chosen = numbered m.actions (policy s) (is_policy s is) in
+        let by_policy : return_of_policy m w policy (suc n) s ≡ exact_return m (scale_of m ^ suc n) (return_of_policy m w policy n) chosen.0 s =
+        ap (λ (o : Option Action). elim o [ None ↦ pos 0 | Some a ↦ exact_return m (scale_of m ^ suc n) (return_of_policy m w policy n) a s ]) chosen.1 in
+        rw by_policy (one_more_below discounted n (return_of_policy m w policy n) chosen.0 (offered_by m (policy s) chosen.0 chosen.1) s is chosen.1 (λ t there. policy_above n t there))
+
+  -- a discount of one or more leaves nothing to compare
+  no_rest : (n : ℕ) (gain : ℤ) → 1000000 < m.discount → pos 0 ≤ℤ r → IsWithinError m r n gain
+  no_rest n gain over some =
+      let none : rest_of ≡ pos 0 = omega (arith, ints) in
+      let error_some = *ℤ_nonnegative (r *ℤ pos 1000000) (scale n) (*ℤ_nonnegative r (pos 1000000) some (natural_nonnegative 1000000)) (natural_nonnegative (scale_of m ^ n)) in
+      rw none (omega (arith, ints))
+
+  pub bound_above : IsBoundAbove m w r
+  bound_above n course s is = elim (cases_lt 1000000 m.discount) [
+    | inl over ↦ no_rest n (return_of_course m w course s -ℤ scale n *ℤ w s) over (residual_nonnegative s is)
+    | inr under ↦ ended_above rest_of (scale n) (w s) r (pos 1000000) (return_of_course m w course s) (course_below under course s is)
+  ]
+
+  pub bound_below : IsBoundBelow m w policy r
+  bound_below n s is = elim (cases_lt 1000000 m.discount) [
+    | inl over ↦ no_rest n (scale n *ℤ w s -ℤ return_of_policy m w policy n s) over (residual_nonnegative s is)
+    | inr under ↦ ended_below rest_of (scale n) (w s) r (pos 1000000) (return_of_policy m w policy n s) (policy_above under n s is)
+  ]
