@@ -10,13 +10,15 @@ use Rattle.spd_model.specs.declared.process.Action.{Action}
 use Rattle.spd_model.specs.Process.{Process}
 use Rattle.spd_model.specs.States.{sizes, IsState, sum_over_states}
 use Rattle.spd_model.specs.Chances.{IsValid, reward_of, joint, scale_of}
-use Rattle.spd_model.specs.Backup.{low_of, high_of}
+use Rattle.spd_model.specs.Backup.{low_of, high_of, policy_of}
+use Rattle.spd_model.specs.Turns.{residual_of}
 use Rattle.spd_bellman.specs.Courses.{Course, stop, act, exact_return, return_of_course, IsPolicy, return_of_policy}
 use Rattle.spd_bellman.specs.Certificate.{Holds}
-use Rattle.spd_bellman.specs.Bound.{IsWithinError, IsBoundAbove, IsBoundBelow}
+use Rattle.spd_bellman.specs.Bound.{IsWithinError, IsBoundAbove, IsBoundBelow, IsNearOptimal}
 use Rattle.spd_bellman.proofs.Sums.{sum_over_states_mono, sum_over_states-*ℤ, sum_over_states_affine}
 use Rattle.spd_bellman.proofs.Expectations.{scale_by}
 use Rattle.spd_bellman.proofs.Returns.{joint_nonnegative, joint-sum, low_encloses, high_encloses}
+use Rattle.spd_bellman.proofs.Residual.{residual_policy, residual_holds}
 
 -- ---- the step from n to n + 1 steps, in whole numbers
 
@@ -190,3 +192,15 @@ module _ (m : Process) (valid : IsValid m) (w : List ℕ → ℤ) (policy : List
     | inl over ↦ no_rest n (scale n *ℤ w s -ℤ return_of_policy m w policy n s) over (residual_nonnegative s is)
     | inr under ↦ ended_below rest_of (scale n) (w s) r (pos 1000000) (return_of_policy m w policy n s) (policy_above under n s is)
   ]
+
+-- ---- a value with its own policy and residual
+
+-- every value of a valid process with an action is near optimal, by its residual
+pub near_optimal : (m : Process) → IsValid m → 0 < length m.actions → (w : List ℕ → ℤ) → IsNearOptimal m w
+near_optimal m valid some w =
+    let is_policy = residual_policy m w some in
+    let holds = residual_holds m w some in
+    record {
+      courses = bound_above m valid w (policy_of m w) (residual_of m w) is_policy holds;
+      policy = bound_below m valid w (policy_of m w) (residual_of m w) is_policy holds;
+    }

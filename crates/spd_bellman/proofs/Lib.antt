@@ -1,4 +1,5 @@
 pub mod Sums
 pub mod Expectations
 pub mod Returns
+pub mod Residual
 pub mod Bounds
