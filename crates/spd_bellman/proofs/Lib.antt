@@ -3,3 +3,4 @@ pub mod Expectations
 pub mod Returns
 pub mod Residual
 pub mod Bounds
+mod Rows
