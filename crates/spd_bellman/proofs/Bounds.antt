@@ -1,5 +1,5 @@
 -- What a certificate that holds says of every course, of the policy, and of every number of steps.
-use Rattle.std.proofs.Common.{◌≡◌, ℕ, zero, suc, ◌+◌, ◌-◌, ◌*◌, ◌^◌, ◌<◌, ◌≤◌, List, [], ◌∷◌, length, get_or, Contains, ℤ, pos, ◌+ℤ◌, ◌-ℤ◌, ◌*ℤ◌, ◌≤ℤ◌, ◌<ℤ◌, ◌⊎◌, inl, inr, refl, ap, sym, ◌∙◌, subst, subst₂, arith}
+use Rattle.std.proofs.Common.{◌≡◌, ℕ, zero, suc, ◌-◌, ◌*◌, ◌^◌, ◌<◌, ◌≤◌, List, [], ◌∷◌, length, Contains, ℤ, pos, ◌+ℤ◌, ◌-ℤ◌, ◌*ℤ◌, ◌≤ℤ◌, ◌<ℤ◌, inl, inr, refl, ap, sym, ◌∙◌, subst, subst₂, arith}
 use Rattle.std.specs.Prelude.{slice_get, Option, Some, None}
 use Rattle.std.proofs.lemmas.Int.{ints}
 use Rattle.std.proofs.Math.Nat.{pow-zero, pow-suc, one-le-pow}
@@ -14,7 +14,7 @@ use Rattle.spd_model.specs.Backup.{low_of, high_of, policy_of}
 use Rattle.spd_model.specs.Turns.{residual_of}
 use Rattle.spd_bellman.specs.Courses.{Course, stop, act, exact_return, return_of_course, IsPolicy, return_of_policy}
 use Rattle.spd_bellman.specs.Certificate.{Holds}
-use Rattle.spd_bellman.specs.Bound.{IsWithinError, IsBoundAbove, IsBoundBelow, IsNearOptimal}
+use Rattle.spd_bellman.specs.Bound.{IsWithinError, IsBoundAbove, IsBoundBelow, IsPolicyNear, IsNearOptimal}
 use Rattle.spd_bellman.proofs.Sums.{sum_over_states_mono, sum_over_states-*ℤ, sum_over_states_affine}
 use Rattle.spd_bellman.proofs.Expectations.{scale_by}
 use Rattle.spd_bellman.proofs.Returns.{joint_nonnegative, joint-sum, low_encloses, high_encloses}
@@ -204,3 +204,18 @@ near_optimal m valid some w =
       courses = bound_above m valid w (policy_of m w) (residual_of m w) is_policy holds;
       policy = bound_below m valid w (policy_of m w) (residual_of m w) is_policy holds;
     }
+
+twice : (x d q : ℤ) → (pos 2 *ℤ x) *ℤ d *ℤ q ≡ x *ℤ d *ℤ q +ℤ x *ℤ d *ℤ q
+twice x d q = let two : pos 2 *ℤ x ≡ x +ℤ x = omega (arith, ints) in rw two (simp ring)
+
+added : (e x y z r d q : ℤ) → (e *ℤ (x -ℤ y)) ≤ℤ (r *ℤ d *ℤ q) → (e *ℤ (y -ℤ z)) ≤ℤ (r *ℤ d *ℤ q) → (e *ℤ (x -ℤ z)) ≤ℤ ((pos 2 *ℤ r) *ℤ d *ℤ q)
+added e x y z r d q h k =
+    let parts : e *ℤ (x -ℤ z) ≡ e *ℤ (x -ℤ y) +ℤ e *ℤ (y -ℤ z) = simp ring (omega (arith, ints)) in
+    omega (arith, ints, twice r d q)
+
+-- no course returns more than the policy by more than twice the bound
+pub policy_near : (m : Process) → IsValid m → 0 < length m.actions → (w : List ℕ → ℤ) → IsPolicyNear m w (policy_of m w) (pos 2 *ℤ residual_of m w)
+policy_near m valid some w n course s is =
+    let near = near_optimal m valid some w in
+    added (pos (1000000 - m.discount)) (return_of_course m w course s) (pos (scale_of m ^ n) *ℤ w s) (return_of_policy m w (policy_of m w) n s)
+    (residual_of m w) (pos 1000000) (pos (scale_of m ^ n)) (near.courses n course s is) (near.policy n s is)

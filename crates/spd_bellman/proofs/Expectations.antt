@@ -1,6 +1,6 @@
 -- The expectation that sums out one variable after another: the rounded ones enclose the exact one, and the exact one is the sum
 -- over all next states. Here a chance may depend on the next values of the later variables too.
-use Rattle.std.proofs.Common.{◌≡◌, ℕ, zero, suc, ◌+◌, ◌*◌, ◌^◌, ◌<◌, ◌≤◌, List, [], ◌∷◌, length, slice_index, ℤ, pos, ◌+ℤ◌, ◌*ℤ◌, ◌≤ℤ◌, ◌<ℤ◌, refl, ap, sym, ◌∙◌, subst, arith}
+use Rattle.std.proofs.Common.{◌≡◌, ℕ, zero, suc, ◌^◌, ◌<◌, ◌≤◌, List, [], ◌∷◌, length, slice_index, ℤ, pos, ◌*ℤ◌, ◌≤ℤ◌, ◌<ℤ◌, refl, ap, sym, ◌∙◌, subst, arith}
 use Rattle.std.proofs.lemmas.Int.{ints}
 use Rattle.std.proofs.Math.Nat.{pow-suc}
 use Rattle.spd_scaled.specs.Scaled.{floor_div, ceil_div}
@@ -119,7 +119,7 @@ exact_by-sum (size ∷ sizes) chance w =
     first_out (slice_index (size ∷ sizes)) chance w (length sizes) []
     ∙ exact_by-sum sizes later (λ t. sum_below size (λ v. chance 0 v t *ℤ w (v ∷ t)))
     ∙ sum_over_states-cong sizes _ _ (λ t is. sym (sum_below-*ℤ size (joint_by later t) (λ v. chance 0 v t *ℤ w (v ∷ t)))
-        ∙ sum_below-cong size _ _ (λ v p. factors (joint_by later t) (chance 0 v t) (w (v ∷ t))))
+    ∙ sum_below-cong size _ _ (λ v p. factors (joint_by later t) (chance 0 v t) (w (v ∷ t))))
     ∙ sum_over_states_swap sizes size (λ v t. (chance 0 v t *ℤ joint_by later t) *ℤ w (v ∷ t))
 
 -- ---- the chances of all next states

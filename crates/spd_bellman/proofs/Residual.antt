@@ -1,6 +1,6 @@
 -- A value's residual bounds its gaps at every state, and its policy takes the greatest lower bound.
-use Rattle.std.proofs.Common.{◌≡◌, ℕ, zero, suc, ◌+◌, ◌<◌, ◌≤◌, Bool, true, false, List, [], ◌∷◌, ◌++◌, length, map, flat_map, get_or, slice_index_or, All, Contains, ℤ, pos, ◌+ℤ◌, ◌-ℤ◌, ◌≤ℤ◌, ◌⊎◌, inl, inr, refl, ap, sym, ◌∙◌, subst, arith, length-append}
-use Rattle.std.specs.Prelude.{slice_get, Option, Some, None, position, unwrap_or, fold, option_map}
+use Rattle.std.proofs.Common.{◌≡◌, ℕ, zero, suc, ◌<◌, true, false, List, [], ◌∷◌, ◌++◌, length, map, flat_map, get_or, All, Contains, ℤ, pos, ◌-ℤ◌, ◌≤ℤ◌, inl, inr, refl, ap, sym, ◌∙◌, subst, arith}
+use Rattle.std.specs.Prelude.{slice_get, Some, option_map}
 use Rattle.std.specs.Int.{int_max}
 use Rattle.std.specs.List.{position_or_len}
 use Rattle.std.proofs.lemmas.Bool.{cases_lt}
@@ -10,11 +10,10 @@ use Rattle.std.proofs.lemmas.Int.{ints, int_max_is, fold-int_max_bounds, fold-in
 use Rattle.std.proofs.lemmas.Grind.{flat_map-append, common_steps}
 use Rattle.std.proofs.lemmas.List.{get_or-map}
 use Rattle.std.proofs.lemmas.List.Elements.{All-contains}
-use Rattle.std.proofs.lemmas.List.Quantifiers.{position-Some}
 use Rattle.std.proofs.lemmas.Option.{slice_get_within, slice_get-map, slice_get-get_or}
 use Rattle.std.proofs.Math.ListN.{length-map}
-use Rattle.spd_scaled.proofs.Ring.{int_eq-true, int_eq-holds, ≤ℤ_trans}
-use Rattle.spd_model.proofs.TreeLaws.{All-left, All-right, All-first}
+use Rattle.spd_scaled.proofs.Ring.{int_eq-true, int_eq-holds}
+use Rattle.spd_model.proofs.TreeLaws.{All-left, All-right}
 use Rattle.spd_model.specs.declared.process.Action.{Action}
 use Rattle.spd_model.specs.Process.{Process}
 use Rattle.spd_model.specs.Numbers.{numbers_below, greatest, first_place}
@@ -36,8 +35,8 @@ All-numbers_below P f (suc n) h v below =
     elim (cases_lt v n) [
       | inl before ↦ All-numbers_below P f n (All-left P (flat_map f (numbers_below n)) (f n ++ []) parted) v before
       | inr after ↦
-        let last : n ≡ v = omega arith in
-        subst (λ k. All P (f k)) last (All-left P (f n) [] (All-right P (flat_map f (numbers_below n)) (f n ++ []) parted))
+          let last : n ≡ v = omega arith in
+          subst (λ k. All P (f k)) last (All-left P (f n) [] (All-right P (flat_map f (numbers_below n)) (f n ++ []) parted))
     ]
 
 pub All-states : (P : List ℕ → Type 0) (sizes : List ℕ) → All P (states sizes) → (s : List ℕ) → IsState sizes s → P s

@@ -1,5 +1,5 @@
 -- The joint probabilities of a process, and the bounds of an action round its exact return.
-use Rattle.std.proofs.Common.{◌≡◌, ℕ, zero, suc, ◌+◌, ◌*◌, ◌^◌, ◌<◌, ◌≤◌, List, [], ◌∷◌, length, map, slice_index, Contains, ℤ, pos, ◌+ℤ◌, ◌*ℤ◌, ◌≤ℤ◌, ◌<ℤ◌, refl, ap, sym, ◌∙◌, subst, arith}
+use Rattle.std.proofs.Common.{◌≡◌, ℕ, suc, ◌+◌, List, [], ◌∷◌, length, slice_index, Contains, ℤ, pos, ◌+ℤ◌, ◌*ℤ◌, ◌≤ℤ◌, ◌<ℤ◌, refl, ap, sym, ◌∙◌, subst, arith}
 use Rattle.std.proofs.lemmas.Int.{ints}
 use Rattle.std.proofs.Math.ListN.{length-map}
 use Rattle.spd_scaled.specs.Scaled.{floor_div, ceil_div}
@@ -8,9 +8,8 @@ use Rattle.spd_scaled.proofs.DivisionLaws.{floor_div_at_most, ceil_div_at_least}
 use Rattle.spd_model.specs.declared.process.Var.{Var}
 use Rattle.spd_model.specs.declared.process.Action.{Action}
 use Rattle.spd_model.specs.Process.{Process}
-use Rattle.spd_model.specs.Numbers.{sum_below}
 use Rattle.spd_model.specs.States.{sizes, IsState, sum_over_states}
-use Rattle.spd_model.specs.Chances.{one, IsValid, probability, reward_of, joint_from, joint, scale_of}
+use Rattle.spd_model.specs.Chances.{IsValid, probability, reward_of, joint_from, joint, scale_of}
 use Rattle.spd_model.specs.Backup.{expectation, low_of, high_of}
 use Rattle.spd_bellman.specs.Courses.{exact_return}
 use Rattle.spd_bellman.proofs.Sums.{sum_over_states-cong}

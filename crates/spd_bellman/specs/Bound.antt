@@ -22,6 +22,11 @@ abbrev pub IsBoundBelow : Process → (List ℕ → ℤ) → (List ℕ → ℕ) 
 IsBoundBelow m w policy r = (n : ℕ) (s : List ℕ) → IsState (sizes m) s
     → IsWithinError m r n (pos (scale_of m ^ n) *ℤ w s -ℤ return_of_policy m w policy n s)
 
+-- No course of any number of steps, from any state, returns more than the policy plus r / (1 - discount), where w ends both.
+abbrev pub IsPolicyNear : Process → (List ℕ → ℤ) → (List ℕ → ℕ) → ℤ → Type 0
+IsPolicyNear m w policy r = (n : ℕ) (course : Course m n) (s : List ℕ) → IsState (sizes m) s
+    → IsWithinError m r n (return_of_course m w course s -ℤ return_of_policy m w policy n s)
+
 -- The value w and its policy are optimal up to the residual of w divided by one minus the discount.
 pub record IsNearOptimal (m : Process) (w : List ℕ → ℤ) : Type 0 where
   pub courses : IsBoundAbove m w (residual_of m w)

@@ -1,5 +1,5 @@
 -- Courses of action and policies, and their exact returns in whole numbers: nothing is rounded.
-use Rattle.std.specs.Prelude.{ℕ, zero, suc, ◌^◌, ◌<◌, List, length, Contains, ℤ, pos, ◌+ℤ◌, ◌*ℤ◌, slice_get, Option, Some, None}
+use Rattle.std.specs.Prelude.{ℕ, zero, suc, ◌^◌, ◌<◌, List, length, Contains, ℤ, pos, ◌+ℤ◌, ◌*ℤ◌, slice_get, Some, None}
 use Rattle.spd_model.specs.declared.process.Action.{Action}
 use Rattle.spd_model.specs.Process.{Process}
 use Rattle.spd_model.specs.States.{sizes, IsState, sum_over_states}
