@@ -89,27 +89,32 @@ scale_positive n = let power : 1 ≤ (10 ^ 12) ^ n = one-le-pow n (10 ^ 12) (ome
 -- ---- every course, and the policy
 
 module _ (m : Process) (valid : IsValid m) (w : List ℕ → ℤ) (policy : List ℕ → ℕ) (r : ℤ) (is_policy : IsPolicy m policy) (holds : Holds m w policy r) where
-  -- one minus the discount, in parts of 10^6
+  -- one minus the discount, and the discount, in parts of 10^6
   abbrev rest_of : ℤ
   rest_of = pos (1000000 - m.discount)
 
-  -- what one unit counts in n steps
+  abbrev discount : ℤ
+  discount = pos m.discount
+
+  -- what one unit counts in n steps, and what one counts as a joint probability
   abbrev scale : ℕ → ℤ
   scale n = pos (scale_of m ^ n)
 
-  -- how far a return of n steps may pass the value
-  abbrev error : ℕ → ℤ
-  error n = r *ℤ (pos 1000000 *ℤ scale n)
-
-  -- the expectation of f over the next states
-  abbrev expected : Action → List ℕ → (List ℕ → ℤ) → ℤ
-  expected a s f = sum_over_states (sizes m) (λ t. joint m a s t *ℤ f t)
+  abbrev sure : ℤ
+  sure = scale_by (length m.vars)
 
   scale-zero : pos 1 ≡ scale 0
   scale-zero = sym (ap pos (pow-zero (scale_of m)))
 
-  scale-suc : (n : ℕ) → scale n *ℤ (pos 1000000 *ℤ scale_by (length m.vars)) ≡ scale (suc n)
+  scale-suc : (n : ℕ) → scale n *ℤ (pos 1000000 *ℤ sure) ≡ scale (suc n)
   scale-suc n = sym (ap pos (pow-suc (scale_of m) n))
+
+  -- a return x from s, of which k parts make one unit, keeps the bound above, and below
+  abbrev KeepsAbove : ℤ → List ℕ → ℤ → Type 0
+  KeepsAbove k s x = (rest_of *ℤ x) ≤ℤ ((rest_of *ℤ k) *ℤ w s +ℤ r *ℤ (pos 1000000 *ℤ k))
+
+  abbrev KeepsBelow : ℤ → List ℕ → ℤ → Type 0
+  KeepsBelow k s x = ((rest_of *ℤ k) *ℤ w s) ≤ℤ (rest_of *ℤ x +ℤ r *ℤ (pos 1000000 *ℤ k))
 
   weight_nonnegative : (n : ℕ) → pos 0 ≤ℤ (rest_of *ℤ scale n)
   weight_nonnegative n = *ℤ_nonnegative rest_of (scale n) (natural_nonnegative (1000000 - m.discount)) (natural_nonnegative (scale_of m ^ n))
@@ -117,80 +122,98 @@ module _ (m : Process) (valid : IsValid m) (w : List ℕ → ℤ) (policy : List
   residual_nonnegative : (s : List ℕ) → IsState (sizes m) s → pos 0 ≤ℤ r
   residual_nonnegative s is =
       let chosen = numbered m.actions (policy s) (is_policy s is) in
-      let offered = offered_by m (policy s) chosen.0 chosen.1 in
-      halved (low_of m w chosen.0 s) (high_of m w chosen.0 s) (w s) r (pos (scale_of m)) (exact_return m (scale_of m) w chosen.0 s) (scale_positive (length m.vars))
-      (low_encloses m valid chosen.0 offered s is w) (high_encloses m valid chosen.0 offered s is w)
-      (holds.above s is chosen.0 offered) (holds.below s is chosen.0 chosen.1)
+      let a = chosen.0 in
+      let offered = offered_by m (policy s) a chosen.1 in
+      halved (low_of m w a s) (high_of m w a s) (w s) r (pos (scale_of m)) (exact_return m (scale_of m) w a s) (scale_positive (length m.vars))
+      (low_encloses m valid a offered s is w) (high_encloses m valid a offered s is w) (holds.above s is a offered) (holds.below s is a chosen.1)
 
-  -- one step by an action, before returns of n steps that keep their bound
-  module _ (discounted : m.discount ≤ 1000000) (n : ℕ) (next : List ℕ → ℤ) (a : Action) (offered : Contains m.actions a) (s : List ℕ) (is : IsState (sizes m) s) where
-    whole : pos 1000000 ≡ pos m.discount +ℤ rest_of
+  -- one step by an action, before returns `next` of n steps that keep the bound
+  module _ (discounted : m.discount ≤ 1000000) (a : Action) (offered : Contains m.actions a) (s : List ℕ) (is : IsState (sizes m) s)
+      (n : ℕ) (next : List ℕ → ℤ) where
+    -- the expectation of f over the next states
+    abbrev expected : (List ℕ → ℤ) → ℤ
+    expected f = sum_over_states (sizes m) (λ t. joint m a s t *ℤ f t)
+
+    -- the return of the step, of which k parts make one unit
+    abbrev stepped : ℤ → ℤ
+    stepped k = k *ℤ reward_of m a s +ℤ discount *ℤ expected next
+
+    whole : pos 1000000 ≡ discount +ℤ rest_of
     whole = omega (arith, ints)
 
-    -- the expectation of x times f plus the error
-    with_error : (x : ℤ) (f : List ℕ → ℤ) → sum_over_states (sizes m) (λ t. joint m a s t *ℤ (x *ℤ f t +ℤ error n)) ≡ x *ℤ expected a s f +ℤ error n *ℤ scale_by (length m.vars)
-    with_error x f = sum_over_states_affine (sizes m) x (error n) (joint m a s) f ∙ ap (λ y. x *ℤ expected a s f +ℤ error n *ℤ y) (joint-sum m valid a offered s is)
+    expected_mono : (f g : List ℕ → ℤ) → ((t : List ℕ) → IsState (sizes m) t → f t ≤ℤ g t) → expected f ≤ℤ expected g
+    expected_mono f g below = sum_over_states_mono (sizes m) _ _
+        (λ t there. *ℤ_mono_right (joint m a s t) _ _ (joint_nonnegative m valid a offered s is t there) (below t there))
 
-    in_order : (f g : List ℕ → ℤ) → ((t : List ℕ) → IsState (sizes m) t → f t ≤ℤ g t) → expected a s f ≤ℤ expected a s g
-    in_order f g below = sum_over_states_mono (sizes m) _ _ (λ t there. *ℤ_mono_right (joint m a s t) _ _ (joint_nonnegative m valid a offered s is t there) (below t there))
+    expected-*ℤ : (x : ℤ) (f : List ℕ → ℤ) → expected (λ t. x *ℤ f t) ≡ x *ℤ expected f
+    expected-*ℤ x f = sum_over_states-*ℤ (sizes m) x (joint m a s) f
 
-    one_more_above : ((t : List ℕ) → IsState (sizes m) t → (rest_of *ℤ next t) ≤ℤ ((rest_of *ℤ scale n) *ℤ w t +ℤ error n))
-        → (rest_of *ℤ exact_return m (scale_of m ^ suc n) next a s) ≤ℤ ((rest_of *ℤ scale (suc n)) *ℤ w s +ℤ error (suc n))
-    one_more_above below =
-        let weighed = subst₂ (λ x y. x ≤ℤ y) (sum_over_states-*ℤ (sizes m) rest_of (joint m a s) next) (with_error (rest_of *ℤ scale n) w) (in_order _ _ below) in
-        subst (λ k. (rest_of *ℤ (k *ℤ reward_of m a s +ℤ pos m.discount *ℤ expected a s next)) ≤ℤ ((rest_of *ℤ k) *ℤ w s +ℤ r *ℤ (pos 1000000 *ℤ k))) (scale-suc n)
-        (step_above rest_of (pos m.discount) (pos 1000000) (scale_by (length m.vars)) (scale n) r (reward_of m a s) (expected a s next) (w s) (expected a s w) whole
-        (*ℤ_mono_right (pos m.discount) _ _ (natural_nonnegative m.discount) weighed)
-        (*ℤ_mono_right (rest_of *ℤ scale n) _ _ (weight_nonnegative n)
-        (raised (pos (scale_of m)) (exact_return m (scale_of m) w a s) (high_of m w a s) (w s) r (natural_nonnegative (scale_of m)) (high_encloses m valid a offered s is w) (holds.above s is a offered))))
+    expected_affine : (x y : ℤ) (f : List ℕ → ℤ) → expected (λ t. x *ℤ f t +ℤ y) ≡ x *ℤ expected f +ℤ y *ℤ sure
+    expected_affine x y f =
+        sum_over_states_affine (sizes m) x y (joint m a s) f ∙ ap (λ j. x *ℤ expected f +ℤ y *ℤ j) (joint-sum m valid a offered s is)
 
-    one_more_below : slice_get m.actions (policy s) ≡ Some a → ((t : List ℕ) → IsState (sizes m) t → ((rest_of *ℤ scale n) *ℤ w t) ≤ℤ (rest_of *ℤ next t +ℤ error n))
-        → ((rest_of *ℤ scale (suc n)) *ℤ w s) ≤ℤ (rest_of *ℤ exact_return m (scale_of m ^ suc n) next a s +ℤ error (suc n))
-    one_more_below chosen above =
-        let weighed = subst₂ (λ x y. x ≤ℤ y) (sum_over_states-*ℤ (sizes m) (rest_of *ℤ scale n) (joint m a s) w) (with_error rest_of next) (in_order _ _ above) in
-        subst (λ k. ((rest_of *ℤ k) *ℤ w s) ≤ℤ (rest_of *ℤ (k *ℤ reward_of m a s +ℤ pos m.discount *ℤ expected a s next) +ℤ r *ℤ (pos 1000000 *ℤ k))) (scale-suc n)
-        (step_below rest_of (pos m.discount) (pos 1000000) (scale_by (length m.vars)) (scale n) r (reward_of m a s) (expected a s next) (w s) (expected a s w) whole
-        (*ℤ_mono_right (pos m.discount) _ _ (natural_nonnegative m.discount) weighed)
-        (*ℤ_mono_right (rest_of *ℤ scale n) _ _ (weight_nonnegative n)
-        (lowered (pos (scale_of m)) (exact_return m (scale_of m) w a s) (low_of m w a s) (w s) r (natural_nonnegative (scale_of m)) (low_encloses m valid a offered s is w) (holds.below s is a chosen))))
+    step_keeps_above : ((t : List ℕ) → IsState (sizes m) t → KeepsAbove (scale n) t (next t))
+        → KeepsAbove (scale (suc n)) s (exact_return m (scale_of m ^ suc n) next a s)
+    step_keeps_above keeps =
+        let weight = rest_of *ℤ scale n in
+        let error = r *ℤ (pos 1000000 *ℤ scale n) in
+        let weighed = subst₂ (λ x y. x ≤ℤ y) (expected-*ℤ rest_of next) (expected_affine weight error w) (expected_mono _ _ keeps) in
+        let here = raised (pos (scale_of m)) (exact_return m (scale_of m) w a s) (high_of m w a s) (w s) r (natural_nonnegative (scale_of m))
+            (high_encloses m valid a offered s is w) (holds.above s is a offered) in
+        subst (λ k. KeepsAbove k s (stepped k)) (scale-suc n)
+        (step_above rest_of discount (pos 1000000) sure (scale n) r (reward_of m a s) (expected next) (w s) (expected w) whole
+        (*ℤ_mono_right discount _ _ (natural_nonnegative m.discount) weighed) (*ℤ_mono_right weight _ _ (weight_nonnegative n) here))
+
+    step_keeps_below : slice_get m.actions (policy s) ≡ Some a → ((t : List ℕ) → IsState (sizes m) t → KeepsBelow (scale n) t (next t))
+        → KeepsBelow (scale (suc n)) s (exact_return m (scale_of m ^ suc n) next a s)
+    step_keeps_below chosen keeps =
+        let weight = rest_of *ℤ scale n in
+        let error = r *ℤ (pos 1000000 *ℤ scale n) in
+        let weighed = subst₂ (λ x y. x ≤ℤ y) (expected-*ℤ weight w) (expected_affine rest_of error next) (expected_mono _ _ keeps) in
+        let here = lowered (pos (scale_of m)) (exact_return m (scale_of m) w a s) (low_of m w a s) (w s) r (natural_nonnegative (scale_of m))
+            (low_encloses m valid a offered s is w) (holds.below s is a chosen) in
+        subst (λ k. KeepsBelow k s (stepped k)) (scale-suc n)
+        (step_below rest_of discount (pos 1000000) sure (scale n) r (reward_of m a s) (expected next) (w s) (expected w) whole
+        (*ℤ_mono_right discount _ _ (natural_nonnegative m.discount) weighed) (*ℤ_mono_right weight _ _ (weight_nonnegative n) here))
 
   module _ (discounted : m.discount ≤ 1000000) where
-    course_below : {n : ℕ} (course : Course m n) (s : List ℕ) → IsState (sizes m) s
-        → (rest_of *ℤ return_of_course m w course s) ≤ℤ ((rest_of *ℤ scale n) *ℤ w s +ℤ error n)
-    course_below stop s is =
-        subst (λ k. (rest_of *ℤ w s) ≤ℤ ((rest_of *ℤ k) *ℤ w s +ℤ r *ℤ (pos 1000000 *ℤ k))) scale-zero
+    course_keeps : {n : ℕ} (course : Course m n) (s : List ℕ) → IsState (sizes m) s → KeepsAbove (scale n) s (return_of_course m w course s)
+    course_keeps stop s is =
+        subst (λ k. KeepsAbove k s (w s)) scale-zero
         (begun_above rest_of (w s) r (pos 1000000) (residual_nonnegative s is) (natural_nonnegative 1000000))
-    course_below (act {n} a offered next) s is =
-        one_more_above discounted n (λ t. return_of_course m w (next t) t) a offered s is (λ t there. course_below (next t) t there)
+    course_keeps (act {n} a offered next) s is =
+        step_keeps_above discounted a offered s is n (λ t. return_of_course m w (next t) t) (λ t there. course_keeps (next t) t there)
 
-    policy_above : (n : ℕ) (s : List ℕ) → IsState (sizes m) s
-        → ((rest_of *ℤ scale n) *ℤ w s) ≤ℤ (rest_of *ℤ return_of_policy m w policy n s +ℤ error n)
-    policy_above zero s is =
-        subst (λ k. ((rest_of *ℤ k) *ℤ w s) ≤ℤ (rest_of *ℤ w s +ℤ r *ℤ (pos 1000000 *ℤ k))) scale-zero
+    policy_keeps : (n : ℕ) (s : List ℕ) → IsState (sizes m) s → KeepsBelow (scale n) s (return_of_policy m w policy n s)
+    policy_keeps zero s is =
+        subst (λ k. KeepsBelow k s (w s)) scale-zero
         (begun_below rest_of (w s) r (pos 1000000) (residual_nonnegative s is) (natural_nonnegative 1000000))
-    policy_above (suc n) s is =
+    policy_keeps (suc n) s is =
         let chosen = numbered m.actions (policy s) (is_policy s is) in
-        let by_policy : return_of_policy m w policy (suc n) s ≡ exact_return m (scale_of m ^ suc n) (return_of_policy m w policy n) chosen.0 s =
-        ap (λ (o : Option Action). elim o [ None ↦ pos 0 | Some a ↦ exact_return m (scale_of m ^ suc n) (return_of_policy m w policy n) a s ]) chosen.1 in
-        rw by_policy (one_more_below discounted n (return_of_policy m w policy n) chosen.0 (offered_by m (policy s) chosen.0 chosen.1) s is chosen.1 (λ t there. policy_above n t there))
+        let later = return_of_policy m w policy n in
+        let by_policy : return_of_policy m w policy (suc n) s ≡ exact_return m (scale_of m ^ suc n) later chosen.0 s =
+        ap (λ (o : Option Action). elim o [ None ↦ pos 0 | Some a ↦ exact_return m (scale_of m ^ suc n) later a s ]) chosen.1 in
+        rw by_policy
+        (step_keeps_below discounted chosen.0 (offered_by m (policy s) chosen.0 chosen.1) s is n later chosen.1 (λ t there. policy_keeps n t there))
 
   -- a discount of one or more leaves nothing to compare
   no_rest : (n : ℕ) (gain : ℤ) → 1000000 < m.discount → pos 0 ≤ℤ r → IsWithinError m r n gain
   no_rest n gain over some =
       let none : rest_of ≡ pos 0 = omega (arith, ints) in
-      let error_some = *ℤ_nonnegative (r *ℤ pos 1000000) (scale n) (*ℤ_nonnegative r (pos 1000000) some (natural_nonnegative 1000000)) (natural_nonnegative (scale_of m ^ n)) in
+      let error = *ℤ_nonnegative r (pos 1000000) some (natural_nonnegative 1000000) in
+      let scaled = *ℤ_nonnegative (r *ℤ pos 1000000) (scale n) error (natural_nonnegative (scale_of m ^ n)) in
       rw none (omega (arith, ints))
 
   pub bound_above : IsBoundAbove m w r
   bound_above n course s is = elim (cases_lt 1000000 m.discount) [
     | inl over ↦ no_rest n (return_of_course m w course s -ℤ scale n *ℤ w s) over (residual_nonnegative s is)
-    | inr under ↦ ended_above rest_of (scale n) (w s) r (pos 1000000) (return_of_course m w course s) (course_below under course s is)
+    | inr under ↦ ended_above rest_of (scale n) (w s) r (pos 1000000) (return_of_course m w course s) (course_keeps under course s is)
   ]
 
   pub bound_below : IsBoundBelow m w policy r
   bound_below n s is = elim (cases_lt 1000000 m.discount) [
     | inl over ↦ no_rest n (scale n *ℤ w s -ℤ return_of_policy m w policy n s) over (residual_nonnegative s is)
-    | inr under ↦ ended_below rest_of (scale n) (w s) r (pos 1000000) (return_of_policy m w policy n s) (policy_above under n s is)
+    | inr under ↦ ended_below rest_of (scale n) (w s) r (pos 1000000) (return_of_policy m w policy n s) (policy_keeps under n s is)
   ]
 
 -- ---- a value with its own policy and residual
