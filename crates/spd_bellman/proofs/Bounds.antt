@@ -40,7 +40,7 @@ step_below e g d p q r reward next value worth is h k =
 
 -- ---- a certificate at a state
 
--- a gain by the residual, as the upper and the lower bound of an action say it
+-- an exact return x, of which k parts make one unit, passes the value by at most r where the action's bounds do
 raised : (k x high value r : ℤ) → pos 0 ≤ℤ k → x ≤ℤ (k *ℤ high) → (high -ℤ value) ≤ℤ r → x ≤ℤ (k *ℤ (value +ℤ r))
 raised k x high value r some h l =
     let more = *ℤ_mono_right k high (value +ℤ r) some (omega (arith, ints)) in omega (arith, ints)
@@ -54,8 +54,10 @@ lowered k x low value r some h l =
 pub natural_nonnegative : (n : ℕ) → pos 0 ≤ℤ pos n
 natural_nonnegative n = omega (arith, ints)
 
-halved : (low high value r k x : ℤ) → pos 0 <ℤ k → (k *ℤ low) ≤ℤ x → x ≤ℤ (k *ℤ high) → (high -ℤ value) ≤ℤ r → (value -ℤ low) ≤ℤ r → pos 0 ≤ℤ r
-halved low high value r k x some h l above below =
+-- two gaps that enclose each other leave a residual of at least 0
+residual_some : (low high value r k x : ℤ) → pos 0 <ℤ k → (k *ℤ low) ≤ℤ x → x ≤ℤ (k *ℤ high) → (high -ℤ value) ≤ℤ r
+    → (value -ℤ low) ≤ℤ r → pos 0 ≤ℤ r
+residual_some low high value r k x some h l above below =
     let ordered = *ℤ_cancel_≤ℤ low high k some (rw (*ℤ_comm low k, *ℤ_comm high k) (≤ℤ_trans (k *ℤ low) x (k *ℤ high) h l)) in
     omega (arith, ints)
 
@@ -67,13 +69,15 @@ begun_above e value r d some parts = let error = *ℤ_nonnegative r d some parts
 begun_below : (e value r d : ℤ) → pos 0 ≤ℤ r → pos 0 ≤ℤ d → ((e *ℤ pos 1) *ℤ value) ≤ℤ (e *ℤ value +ℤ r *ℤ (d *ℤ pos 1))
 begun_below e value r d some parts = let error = *ℤ_nonnegative r d some parts in simp ring (omega (arith, ints))
 
-ended_above : (e q value r d x : ℤ) → (e *ℤ x) ≤ℤ ((e *ℤ q) *ℤ value +ℤ r *ℤ (d *ℤ q)) → (e *ℤ (x -ℤ q *ℤ value)) ≤ℤ (r *ℤ d *ℤ q)
+ended_above : (e q value r d x : ℤ) → (e *ℤ x) ≤ℤ ((e *ℤ q) *ℤ value +ℤ r *ℤ (d *ℤ q))
+    → (e *ℤ (x -ℤ q *ℤ value)) ≤ℤ (r *ℤ d *ℤ q)
 ended_above e q value r d x h = let h' = simp ring at h in simp ring (omega (arith, ints))
 
-ended_below : (e q value r d x : ℤ) → ((e *ℤ q) *ℤ value) ≤ℤ (e *ℤ x +ℤ r *ℤ (d *ℤ q)) → (e *ℤ (q *ℤ value -ℤ x)) ≤ℤ (r *ℤ d *ℤ q)
+ended_below : (e q value r d x : ℤ) → ((e *ℤ q) *ℤ value) ≤ℤ (e *ℤ x +ℤ r *ℤ (d *ℤ q))
+    → (e *ℤ (q *ℤ value -ℤ x)) ≤ℤ (r *ℤ d *ℤ q)
 ended_below e q value r d x h = let h' = simp ring at h in simp ring (omega (arith, ints))
 
--- ---- an action by its number
+-- ---- actions by their numbers, and the scale
 
 numbered : {X : Type 0} (xs : List X) (k : ℕ) → k < length xs → (x : X) × (slice_get xs k ≡ Some x)
 numbered [] k near = absurd (omega arith)
@@ -88,7 +92,8 @@ scale_positive n = let power : 1 ≤ (10 ^ 12) ^ n = one-le-pow n (10 ^ 12) (ome
 
 -- ---- every course, and the policy
 
-module _ (m : Process) (valid : IsValid m) (w : List ℕ → ℤ) (policy : List ℕ → ℕ) (r : ℤ) (is_policy : IsPolicy m policy) (holds : Holds m w policy r) where
+module _ (m : Process) (valid : IsValid m) (w : List ℕ → ℤ) (policy : List ℕ → ℕ) (r : ℤ) (is_policy : IsPolicy m policy)
+    (holds : Holds m w policy r) where
   -- one minus the discount, and the discount, in parts of 10^6
   abbrev rest_of : ℤ
   rest_of = pos (1000000 - m.discount)
@@ -124,7 +129,7 @@ module _ (m : Process) (valid : IsValid m) (w : List ℕ → ℤ) (policy : List
       let chosen = numbered m.actions (policy s) (is_policy s is) in
       let a = chosen.0 in
       let offered = offered_by m (policy s) a chosen.1 in
-      halved (low_of m w a s) (high_of m w a s) (w s) r (pos (scale_of m)) (exact_return m (scale_of m) w a s) (scale_positive (length m.vars))
+      residual_some (low_of m w a s) (high_of m w a s) (w s) r (pos (scale_of m)) (exact_return m (scale_of m) w a s) (scale_positive (length m.vars))
       (low_encloses m valid a offered s is w) (high_encloses m valid a offered s is w) (holds.above s is a offered) (holds.below s is a chosen.1)
 
   -- one step by an action, before returns `next` of n steps that keep the bound
@@ -159,7 +164,7 @@ module _ (m : Process) (valid : IsValid m) (w : List ℕ → ℤ) (policy : List
         let error = r *ℤ (pos 1000000 *ℤ scale n) in
         let weighed = subst₂ (λ x y. x ≤ℤ y) (expected-*ℤ rest_of next) (expected_affine weight error w) (expected_mono _ _ keeps) in
         let here = raised (pos (scale_of m)) (exact_return m (scale_of m) w a s) (high_of m w a s) (w s) r (natural_nonnegative (scale_of m))
-            (high_encloses m valid a offered s is w) (holds.above s is a offered) in
+        (high_encloses m valid a offered s is w) (holds.above s is a offered) in
         subst (λ k. KeepsAbove k s (stepped k)) (scale-suc n)
         (step_above rest_of discount (pos 1000000) sure (scale n) r (reward_of m a s) (expected next) (w s) (expected w) whole
         (*ℤ_mono_right discount _ _ (natural_nonnegative m.discount) weighed) (*ℤ_mono_right weight _ _ (weight_nonnegative n) here))
@@ -171,7 +176,7 @@ module _ (m : Process) (valid : IsValid m) (w : List ℕ → ℤ) (policy : List
         let error = r *ℤ (pos 1000000 *ℤ scale n) in
         let weighed = subst₂ (λ x y. x ≤ℤ y) (expected-*ℤ weight w) (expected_affine rest_of error next) (expected_mono _ _ keeps) in
         let here = lowered (pos (scale_of m)) (exact_return m (scale_of m) w a s) (low_of m w a s) (w s) r (natural_nonnegative (scale_of m))
-            (low_encloses m valid a offered s is w) (holds.below s is a chosen) in
+        (low_encloses m valid a offered s is w) (holds.below s is a chosen) in
         subst (λ k. KeepsBelow k s (stepped k)) (scale-suc n)
         (step_below rest_of discount (pos 1000000) sure (scale n) r (reward_of m a s) (expected next) (w s) (expected w) whole
         (*ℤ_mono_right discount _ _ (natural_nonnegative m.discount) weighed) (*ℤ_mono_right weight _ _ (weight_nonnegative n) here))
@@ -231,13 +236,15 @@ near_optimal m valid some w =
 twice : (x d q : ℤ) → (pos 2 *ℤ x) *ℤ d *ℤ q ≡ x *ℤ d *ℤ q +ℤ x *ℤ d *ℤ q
 twice x d q = let two : pos 2 *ℤ x ≡ x +ℤ x = omega (arith, ints) in rw two (simp ring)
 
-added : (e x y z r d q : ℤ) → (e *ℤ (x -ℤ y)) ≤ℤ (r *ℤ d *ℤ q) → (e *ℤ (y -ℤ z)) ≤ℤ (r *ℤ d *ℤ q) → (e *ℤ (x -ℤ z)) ≤ℤ ((pos 2 *ℤ r) *ℤ d *ℤ q)
+added : (e x y z r d q : ℤ) → (e *ℤ (x -ℤ y)) ≤ℤ (r *ℤ d *ℤ q) → (e *ℤ (y -ℤ z)) ≤ℤ (r *ℤ d *ℤ q)
+    → (e *ℤ (x -ℤ z)) ≤ℤ ((pos 2 *ℤ r) *ℤ d *ℤ q)
 added e x y z r d q h k =
     let parts : e *ℤ (x -ℤ z) ≡ e *ℤ (x -ℤ y) +ℤ e *ℤ (y -ℤ z) = simp ring (omega (arith, ints)) in
     omega (arith, ints, twice r d q)
 
 -- no course returns more than the policy by more than twice the bound
-pub policy_near : (m : Process) → IsValid m → 0 < length m.actions → (w : List ℕ → ℤ) → IsPolicyNear m w (policy_of m w) (pos 2 *ℤ residual_of m w)
+pub policy_near : (m : Process) → IsValid m → 0 < length m.actions → (w : List ℕ → ℤ)
+    → IsPolicyNear m w (policy_of m w) (pos 2 *ℤ residual_of m w)
 policy_near m valid some w n course s is =
     let near = near_optimal m valid some w in
     added (pos (1000000 - m.discount)) (return_of_course m w course s) (pos (scale_of m ^ n) *ℤ w s) (return_of_policy m w (policy_of m w) n s)

@@ -52,6 +52,9 @@ one_times_below x = omega (arith, ints)
 one_times_above : (x : ℤ) → x ≤ℤ (pos 1 *ℤ x)
 one_times_above x = omega (arith, ints)
 
+regrouped : (i : ℕ) (x : ℤ) → scale_by i *ℤ (one *ℤ x) ≡ scale_by (suc i) *ℤ x
+regrouped i x = sym (*ℤ_assoc (scale_by i) one x) ∙ ap (λ k. k *ℤ x) (sym (scale_by-suc i))
+
 -- a factor goes into the weighted sum over one variable's values
 into_sum : (k : ℤ) (n : ℕ) (p f : ℕ → ℤ) → k *ℤ sum_below n (λ v. p v *ℤ f v) ≡ sum_below n (λ v. p v *ℤ (k *ℤ f v))
 into_sum k n p f = sym (sum_below-*ℤ n k (λ v. p v *ℤ f v)) ∙ sum_below-cong n _ _ (λ v q. *ℤ_swap k (p v) (f v))
@@ -74,8 +77,9 @@ module _ (size : ℕ → ℕ) (chance : Chance) (w : List ℕ → ℤ) (n : ℕ)
       let rounded = *ℤ_mono_right k _ _ (scale_by_nonnegative i) (at_most sum) in
       let inner : (k *ℤ sum) ≤ℤ exact (suc i) rest =
       subst (λ x. x ≤ℤ exact (suc i) rest) (sym (into_sum k (size i) (λ v. chance i v rest) (λ v. low i (v ∷ rest))))
-      (sum_below_mono (size i) _ _ (λ v p. *ℤ_mono_right (chance i v rest) _ _ (chances i v rest h p) (encloses_below i (v ∷ rest) (omega arith)))) in
-      subst (λ x. x ≤ℤ exact (suc i) rest) (sym (*ℤ_assoc k one (floor_div sum one)) ∙ ap (λ x. x *ℤ floor_div sum one) (sym (scale_by-suc i)))
+      (sum_below_mono (size i) _ _ (λ v p. *ℤ_mono_right (chance i v rest) _ _ (chances i v rest h p)
+      (encloses_below i (v ∷ rest) (omega arith)))) in
+      subst (λ x. x ≤ℤ exact (suc i) rest) (regrouped i (floor_div sum one))
       (≤ℤ_trans _ (k *ℤ sum) _ rounded inner)
 
   pub encloses_above : (i : ℕ) (rest : List ℕ) → i ≤ n → exact i rest ≤ℤ (scale_by i *ℤ high i rest)
@@ -86,8 +90,9 @@ module _ (size : ℕ → ℕ) (chance : Chance) (w : List ℕ → ℤ) (n : ℕ)
       let rounded = *ℤ_mono_right k _ _ (scale_by_nonnegative i) (at_least sum) in
       let inner : exact (suc i) rest ≤ℤ (k *ℤ sum) =
       subst (λ x. exact (suc i) rest ≤ℤ x) (sym (into_sum k (size i) (λ v. chance i v rest) (λ v. high i (v ∷ rest))))
-      (sum_below_mono (size i) _ _ (λ v p. *ℤ_mono_right (chance i v rest) _ _ (chances i v rest h p) (encloses_above i (v ∷ rest) (omega arith)))) in
-      subst (λ x. exact (suc i) rest ≤ℤ x) (sym (*ℤ_assoc k one (ceil_div sum one)) ∙ ap (λ x. x *ℤ ceil_div sum one) (sym (scale_by-suc i)))
+      (sum_below_mono (size i) _ _ (λ v p. *ℤ_mono_right (chance i v rest) _ _ (chances i v rest h p)
+      (encloses_above i (v ∷ rest) (omega arith)))) in
+      subst (λ x. exact (suc i) rest ≤ℤ x) (regrouped i (ceil_div sum one))
       (≤ℤ_trans _ (k *ℤ sum) _ inner rounded)
 
 -- ---- the exact expectation is the sum over all next states
@@ -124,8 +129,8 @@ exact_by-sum (size ∷ sizes) chance w =
 
 -- ---- the chances of all next states
 
-pub joint_by_nonnegative : (sizes : List ℕ) (chance : Chance) → AreChances (slice_index sizes) chance (length sizes) → (t : List ℕ) → IsState sizes t
-    → pos 0 ≤ℤ joint_by chance t
+pub joint_by_nonnegative : (sizes : List ℕ) (chance : Chance) → AreChances (slice_index sizes) chance (length sizes)
+    → (t : List ℕ) → IsState sizes t → pos 0 ≤ℤ joint_by chance t
 joint_by_nonnegative [] chance h [] is = record { le = tt }
 joint_by_nonnegative [] chance h (v ∷ t) is = absurd is
 joint_by_nonnegative (size ∷ sizes) chance h [] is = absurd is
@@ -134,11 +139,13 @@ joint_by_nonnegative (size ∷ sizes) chance h (v ∷ t) is =
     (joint_by_nonnegative sizes (λ i. chance (suc i)) (λ i u rest near below. h (suc i) u rest (omega arith) below) t is.1)
 
 -- the exact expectation of 1 is one to the power of the number of variables, where each variable's chances sum to one
-pub exact_by-one : (size : ℕ → ℕ) (chance : Chance) (n : ℕ) → ((i : ℕ) (rest : List ℕ) → i < n → sum_below (size i) (λ v. chance i v rest) ≡ one)
+pub exact_by-one : (size : ℕ → ℕ) (chance : Chance) (n : ℕ)
+    → ((i : ℕ) (rest : List ℕ) → i < n → sum_below (size i) (λ v. chance i v rest) ≡ one)
     → (i : ℕ) (rest : List ℕ) → i ≤ n → exact_by size chance (λ t. pos 1) i rest ≡ scale_by i
 exact_by-one size chance n sums zero rest h = refl
 exact_by-one size chance n sums (suc i) rest h =
-    sum_below-cong (size i) _ _ (λ v p. ap (λ x. chance i v rest *ℤ x) (exact_by-one size chance n sums i (v ∷ rest) (omega arith)) ∙ *ℤ_comm (chance i v rest) (scale_by i))
+    sum_below-cong (size i) _ _ (λ v p. ap (λ x. chance i v rest *ℤ x) (exact_by-one size chance n sums i (v ∷ rest) (omega arith))
+    ∙ *ℤ_comm (chance i v rest) (scale_by i))
     ∙ sum_below-*ℤ (size i) (scale_by i) (λ v. chance i v rest)
     ∙ ap (λ x. scale_by i *ℤ x) (sums i rest h)
     ∙ sym (scale_by-suc i)

@@ -28,7 +28,8 @@ use Rattle.spd_bellman.specs.Certificate.{Holds}
 All-map_back : {X Y : Type 0} (P : Y → Type 0) (f : X → Y) (xs : List X) → All P (map f xs) → All (λ x. P (f x)) xs
 All-map_back P f xs h = λ k d near. subst P (get_or-map f xs k d (f d) near) (h k (f d) (rw length-map near))
 
-All-numbers_below : {Y : Type 0} (P : Y → Type 0) (f : ℕ → List Y) (n : ℕ) → All P (flat_map f (numbers_below n)) → (v : ℕ) → v < n → All P (f v)
+All-numbers_below : {Y : Type 0} (P : Y → Type 0) (f : ℕ → List Y) (n : ℕ) → All P (flat_map f (numbers_below n))
+    → (v : ℕ) → v < n → All P (f v)
 All-numbers_below P f zero h v below = absurd (omega arith)
 All-numbers_below P f (suc n) h v below =
     let parted : All P (flat_map f (numbers_below n) ++ (f n ++ [])) = subst (All P) (flat_map-append f (numbers_below n) (n ∷ [])) h in
@@ -51,7 +52,8 @@ All-states P (size ∷ sizes) h (v ∷ s) is =
 
 greatest_at_least : (xs : List ℤ) (x : ℤ) → Contains xs x → x ≤ℤ greatest xs
 greatest_at_least [] x there = absurd (omega (arith, there.1))
-greatest_at_least (y ∷ ys) x (zero, near, is) = subst (λ z. z ≤ℤ greatest (y ∷ ys)) is (fold-int_max_bounds y ys (greatest (y ∷ ys)) refl).0
+greatest_at_least (y ∷ ys) x (zero, near, is) =
+    subst (λ z. z ≤ℤ greatest (y ∷ ys)) is (fold-int_max_bounds y ys (greatest (y ∷ ys)) refl).0
 greatest_at_least (y ∷ ys) x (suc k, near, is) =
     All-contains (λ z. z ≤ℤ greatest (y ∷ ys)) ys x (fold-int_max_bounds y ys (greatest (y ∷ ys)) refl).1 (k, omega arith, is)
 
@@ -70,7 +72,9 @@ first_place_reads : (x : ℤ) (xs : List ℤ) → Contains xs x → slice_get xs
 first_place_reads x xs there =
     let k = position_or_len (int_eq x) xs in
     let near : k < length xs = elim (cases_lt there.0 k) [
-      | inl before ↦ absurd (differ (sym (fails_before_first (int_eq x) xs there.0 x before) ∙ int_eq-holds x (get_or xs there.0 x) (sym there.2)))
+      | inl before ↦
+          let fails = fails_before_first (int_eq x) xs there.0 x before in
+          absurd (differ (sym fails ∙ int_eq-holds x (get_or xs there.0 x) (sym there.2)))
       | inr after ↦ omega (arith, there.1)
     ] in
     let place : first_place x xs ≡ k = grind (arith, common_steps) in
@@ -102,7 +106,8 @@ module _ (m : Process) (w : List ℕ → ℤ) where
   gaps_below : (s : List ℕ) → IsState (sizes m) s → gap s ≤ℤ residual_of m w
   gaps_below s is =
       All-states (λ t. gap t ≤ℤ residual_of m w) (sizes m)
-      (All-map_back (λ x. x ≤ℤ residual_of m w) gap (states (sizes m)) (fold-int_max_bounds (pos 0) (table_of (sizes m) gap) (residual_of m w) refl).1) s is
+      (All-map_back (λ x. x ≤ℤ residual_of m w) gap (states (sizes m))
+      (fold-int_max_bounds (pos 0) (table_of (sizes m) gap) (residual_of m w) refl).1) s is
 
   high_below : (a : Action) → Contains m.actions a → (s : List ℕ) → high_of m w a s ≤ℤ best_high m w s
   high_below a offered s =
@@ -117,12 +122,14 @@ module _ (m : Process) (w : List ℕ → ℤ) where
 
     policy_low : (s : List ℕ) (a : Action) → slice_get m.actions (policy_of m w s) ≡ Some a → best_low m w s ≡ low_of m w a s
     policy_low s a chosen =
-        Some_same (best_low m w s) (low_of m w a s) (sym (policy_reads s) ∙ slice_get-map (λ b. low_of m w b s) m.actions (policy_of m w s) ∙ ap (option_map (λ b. low_of m w b s)) chosen)
+        let low : Action → ℤ = λ b. low_of m w b s in
+        Some_same (best_low m w s) (low a) (sym (policy_reads s) ∙ slice_get-map low m.actions (policy_of m w s) ∙ ap (option_map low) chosen)
 
     pub residual_policy : IsPolicy m (policy_of m w)
     residual_policy s is =
         let lows = map (λ a. low_of m w a s) m.actions in
-        subst (λ n. policy_of m w s < n) (length-map m.actions (λ a. low_of m w a s)) (slice_get_within lows (policy_of m w s) (best_low m w s) (policy_reads s))
+        subst (λ n. policy_of m w s < n) (length-map m.actions (λ a. low_of m w a s))
+        (slice_get_within lows (policy_of m w s) (best_low m w s) (policy_reads s))
 
     pub residual_holds : Holds m w (policy_of m w) (residual_of m w)
     residual_holds = record {

@@ -78,7 +78,8 @@ module _ (m : Process) (valid : IsValid m) (a : Action) (offered : Contains m.ac
         low_step (pos 1000000) p g (reward_of m a s) (floor_div (g *ℤ e) (pos 1000000)) e (sum_over_states (sizes m) (λ t. joint m a s t *ℤ w t))
         (*ℤ_mono_right p _ _ (scale_by_nonnegative (length m.vars)) (floor_div_at_most (g *ℤ e) (pos 1000000) million_above))
         (*ℤ_mono_right g _ _ (natural_nonnegative m.discount)
-        (subst (λ x. (p *ℤ e) ≤ℤ x) exact-sum (encloses_below (slice_index (sizes m)) chance w (length m.vars) near_chances (length m.vars) [] (omega arith))))
+        (subst (λ x. (p *ℤ e) ≤ℤ x) exact-sum
+        (encloses_below (slice_index (sizes m)) chance w (length m.vars) near_chances (length m.vars) [] (omega arith))))
 
     pub high_encloses : exact_return m (scale_of m) w a s ≤ℤ (pos (scale_of m) *ℤ high_of m w a s)
     high_encloses =
@@ -88,4 +89,5 @@ module _ (m : Process) (valid : IsValid m) (a : Action) (offered : Contains m.ac
         high_step (pos 1000000) p g (reward_of m a s) (ceil_div (g *ℤ e) (pos 1000000)) e (sum_over_states (sizes m) (λ t. joint m a s t *ℤ w t))
         (*ℤ_mono_right p _ _ (scale_by_nonnegative (length m.vars)) (ceil_div_at_least (g *ℤ e) (pos 1000000) million_above))
         (*ℤ_mono_right g _ _ (natural_nonnegative m.discount)
-        (subst (λ x. x ≤ℤ (p *ℤ e)) exact-sum (encloses_above (slice_index (sizes m)) chance w (length m.vars) near_chances (length m.vars) [] (omega arith))))
+        (subst (λ x. x ≤ℤ (p *ℤ e)) exact-sum
+        (encloses_above (slice_index (sizes m)) chance w (length m.vars) near_chances (length m.vars) [] (omega arith))))

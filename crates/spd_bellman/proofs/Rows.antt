@@ -68,7 +68,8 @@ unfolding shape-the_row-Tree-0 hidden-the_row-Tree-0 denote.Hole.Carrier.hidden
 value-keeping = refl
 
 -- the two sides of the bound: the gain of 0.125 times one minus the discount, and the residual
-gain-keeping : pos 500000 *ℤ (return_of_course keeping second stays (0 ∷ []) -ℤ pos (scale_of keeping ^ 1) *ℤ second (0 ∷ [])) ≡ pos (625 * 10 ^ 29)
+gain-keeping : pos 500000 *ℤ (return_of_course keeping second stays (0 ∷ []) -ℤ pos (scale_of keeping ^ 1) *ℤ second (0 ∷ []))
+    ≡ pos (625 * 10 ^ 29)
 unfolding shape-the_row-Tree-0 hidden-the_row-Tree-0 denote.Hole.Carrier.hidden stays
 gain-keeping = refl
 
@@ -175,12 +176,15 @@ nothing s = pos 0
 
 -- to flip, and then to name what is seen, or to name yes at any rate
 seeing : Course guessing 2
-seeing = act flip (0, omega arith, refl) (λ t. if slice_index t 0 == 0 then act yes (1, omega arith, refl) (λ u. stop) else act no (2, omega arith, refl) (λ u. stop))
+seeing =
+    act flip (0, omega arith, refl)
+    (λ t. if slice_index t 0 == 0 then act yes (1, omega arith, refl) (λ u. stop) else act no (2, omega arith, refl) (λ u. stop))
 
 blind : Course guessing 2
 blind = act flip (0, omega arith, refl) (λ t. act yes (1, omega arith, refl) (λ u. stop))
 
 -- they return 0.5 and 0.25, in parts of 10^36 to the unit
-return-guessing : (return_of_course guessing nothing seeing (0 ∷ []) ≡ pos (50 * 10 ^ 43)) × (return_of_course guessing nothing blind (0 ∷ []) ≡ pos (25 * 10 ^ 43))
+return-guessing : (return_of_course guessing nothing seeing (0 ∷ []) ≡ pos (50 * 10 ^ 43))
+    × (return_of_course guessing nothing blind (0 ∷ []) ≡ pos (25 * 10 ^ 43))
 unfolding shape-the_row-Tree-0 hidden-the_row-Tree-0 denote.Hole.Carrier.hidden seeing blind
 return-guessing = (refl, refl)

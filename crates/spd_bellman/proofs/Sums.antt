@@ -39,7 +39,8 @@ sum_below-zero zero = refl
 sum_below-zero (suc n) = ap (λ x. x +ℤ pos 0) (sum_below-zero n)
 
 -- two sums change places
-pub sum_below_swap : (m n : ℕ) (f : ℕ → ℕ → ℤ) → sum_below m (λ u. sum_below n (λ v. f u v)) ≡ sum_below n (λ v. sum_below m (λ u. f u v))
+pub sum_below_swap : (m n : ℕ) (f : ℕ → ℕ → ℤ)
+    → sum_below m (λ u. sum_below n (λ v. f u v)) ≡ sum_below n (λ v. sum_below m (λ u. f u v))
 sum_below_swap zero n f = sym (sum_below-zero n)
 sum_below_swap (suc m) n f =
     ap (λ x. x +ℤ sum_below n (f m)) (sum_below_swap m n f) ∙ sym (sum_below-+ℤ n (λ v. sum_below m (λ u. f u v)) (f m))

@@ -7,8 +7,8 @@ use Rattle.spd_model.specs.Backup.{policy_of}
 use Rattle.spd_model.specs.Turns.{residual_of}
 use Rattle.spd_bellman.specs.Courses.{Course, return_of_course, return_of_policy}
 
--- A gain of n steps is at most r / (1 - discount). It counts in parts of which `scale_of m ^ n` make one unit, and both sides are
--- multiplied by that scale and by the discount's 10^6.
+-- A gain of n steps is at most r / (1 - discount). It counts in parts of which `scale_of m ^ n` make one unit, so both sides are
+-- multiplied by that scale, by the discount's 10^6 and by one minus the discount, which is above 0 in every model.
 abbrev pub IsWithinError : Process → ℤ → ℕ → ℤ → Type 0
 IsWithinError m r n gain = (pos (1000000 - m.discount) *ℤ gain) ≤ℤ (r *ℤ pos 1000000 *ℤ pos (scale_of m ^ n))
 
@@ -27,7 +27,7 @@ abbrev pub IsPolicyNear : Process → (List ℕ → ℤ) → (List ℕ → ℕ) 
 IsPolicyNear m w policy r = (n : ℕ) (course : Course m n) (s : List ℕ) → IsState (sizes m) s
     → IsWithinError m r n (return_of_course m w course s -ℤ return_of_policy m w policy n s)
 
--- The value w and its policy are optimal up to the residual of w divided by one minus the discount.
+-- The value w and its policy are optimal up to the error r / (1 - discount), with r the residual of w.
 pub record IsNearOptimal (m : Process) (w : List ℕ → ℤ) : Type 0 where
   pub courses : IsBoundAbove m w (residual_of m w)
   pub policy : IsBoundBelow m w (policy_of m w) (residual_of m w)

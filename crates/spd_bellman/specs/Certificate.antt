@@ -9,4 +9,5 @@ use Rattle.spd_model.specs.Backup.{low_of, high_of}
 -- and the lower bound of the policy's action lies at most r below it.
 pub record Holds (m : Process) (w : List ℕ → ℤ) (policy : List ℕ → ℕ) (r : ℤ) : Type 0 where
   pub above : (s : List ℕ) → IsState (sizes m) s → (a : Action) → Contains m.actions a → (high_of m w a s -ℤ w s) ≤ℤ r
-  pub below : (s : List ℕ) → IsState (sizes m) s → (a : Action) → slice_get m.actions (policy s) ≡ Some a → (w s -ℤ low_of m w a s) ≤ℤ r
+  pub below : (s : List ℕ) → IsState (sizes m) s → (a : Action) → slice_get m.actions (policy s) ≡ Some a
+      → (w s -ℤ low_of m w a s) ≤ℤ r

@@ -26,6 +26,7 @@ abbrev pub IsPolicy : Process → (List ℕ → ℕ) → Type 0
 IsPolicy m policy = (s : List ℕ) → IsState (sizes m) s → policy s < length m.actions
 
 -- The expected return of n steps by a policy from s, where w is what their end is worth, in the parts of a course of n steps.
+-- It is 0 from a state whose number is of no action.
 abbrev pub return_of_policy : Process → (List ℕ → ℤ) → (List ℕ → ℕ) → ℕ → List ℕ → ℤ
 return_of_policy m w policy zero s = w s
 return_of_policy m w policy (suc n) s = elim (slice_get m.actions (policy s)) [

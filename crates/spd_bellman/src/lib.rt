@@ -4,7 +4,7 @@
 //! clause holds of every process, whether a program ever meets it or not.
 #![tactic(auto)]
 
-ghost use Rattle.std.specs.Prelude.{ℕ, zero, ◌^◌, ◌<◌, ◌≡◌, length, List, Contains, ℤ, pos, ◌*ℤ◌, ◌≤ℤ◌};
+ghost use Rattle.std.specs.Prelude.{ℕ, ◌^◌, ◌<◌, ◌≡◌, length, List, Contains, ℤ, pos, ◌*ℤ◌, ◌≤ℤ◌};
 ghost use Rattle.spd_model.specs.declared.process.Action.{Action};
 ghost use Rattle.spd_model.specs.Process.{Process};
 ghost use Rattle.spd_model.specs.States.{sizes, IsState, sum_over_states};
@@ -19,7 +19,7 @@ ghost use Rattle.spd_bellman.specs.Bound.{IsBoundAbove, IsBoundBelow, IsPolicyNe
 ///
 /// They count in parts of 10^12 to the power of the number of variables.
 pub fn law_joint()
-    ensures some { (m : Process) → IsValid m → (a : Action) → Contains m.actions a → (s t : List ℕ)
+    ensures nonnegative { (m : Process) → IsValid m → (a : Action) → Contains m.actions a → (s t : List ℕ)
         → IsState (sizes m) s → IsState (sizes m) t → pos 0 ≤ℤ joint m a s t }
     ensures whole { (m : Process) → IsValid m → (a : Action) → Contains m.actions a → (s : List ℕ) → IsState (sizes m) s
         → sum_over_states (sizes m) (joint m a s) ≡ pos ((10 ^ 12) ^ length m.vars) }
