@@ -1,10 +1,9 @@
 -- What a certificate that holds says of every course, of the policy, and of every number of steps.
-use Rattle.std.proofs.Common.{◌≡◌, ℕ, zero, suc, ◌-◌, ◌*◌, ◌^◌, ◌<◌, ◌≤◌, List, [], ◌∷◌, length, Contains, ℤ, pos, ◌+ℤ◌, ◌-ℤ◌, ◌*ℤ◌, ◌≤ℤ◌, ◌<ℤ◌, inl, inr, refl, ap, sym, ◌∙◌, subst, subst₂, arith}
-use Rattle.std.specs.Prelude.{slice_get, Option, Some, None}
+use Rattle.std.proofs.Common.{◌≡◌, ℕ, zero, suc, ◌-◌, ◌*◌, ◌^◌, ◌<◌, ◌≤◌, List, length, Contains, ℤ, pos, ◌+ℤ◌, ◌-ℤ◌, ◌*ℤ◌, ◌≤ℤ◌, ◌<ℤ◌, inl, inr, ap, sym, ◌∙◌, subst, subst₂, arith}
+use Rattle.std.specs.Prelude.{slice_get, Some}
 use Rattle.std.proofs.lemmas.Int.{ints}
 use Rattle.std.proofs.Math.Nat.{pow-zero, pow-suc, one-le-pow}
 use Rattle.std.proofs.lemmas.Bool.{cases_lt}
-use Rattle.std.proofs.lemmas.Option.{slice_get_within, get_or_from_slice_get}
 use Rattle.spd_scaled.proofs.Ring.{ring, *ℤ_comm, *ℤ_mono_right, *ℤ_nonnegative, *ℤ_cancel_≤ℤ, ≤ℤ_trans}
 use Rattle.spd_model.specs.declared.process.Action.{Action}
 use Rattle.spd_model.specs.Process.{Process}
@@ -18,6 +17,7 @@ use Rattle.spd_bellman.specs.Bound.{IsWithinError, IsBoundAbove, IsBoundBelow, I
 use Rattle.spd_bellman.proofs.Sums.{sum_over_states_mono, sum_over_states-*ℤ, sum_over_states_affine}
 use Rattle.spd_bellman.proofs.Expectations.{scale_by}
 use Rattle.spd_bellman.proofs.Returns.{joint_nonnegative, joint-sum, low_encloses, high_encloses}
+use Rattle.spd_bellman.proofs.Policies.{numbered, offered_by, step-return_of_policy}
 use Rattle.spd_bellman.proofs.Residual.{residual_policy, residual_holds}
 
 -- ---- the step from n to n + 1 steps, in whole numbers
@@ -77,15 +77,7 @@ ended_below : (e q value r d x : ℤ) → ((e *ℤ q) *ℤ value) ≤ℤ (e *ℤ
     → (e *ℤ (q *ℤ value -ℤ x)) ≤ℤ (r *ℤ d *ℤ q)
 ended_below e q value r d x h = let h' = simp ring at h in simp ring (omega (arith, ints))
 
--- ---- actions by their numbers, and the scale
-
-numbered : {X : Type 0} (xs : List X) (k : ℕ) → k < length xs → (x : X) × (slice_get xs k ≡ Some x)
-numbered [] k near = absurd (omega arith)
-numbered (x ∷ xs) zero near = (x, refl)
-numbered (x ∷ xs) (suc k) near = numbered xs k (omega arith)
-
-offered_by : (m : Process) (k : ℕ) (a : Action) → slice_get m.actions k ≡ Some a → Contains m.actions a
-offered_by m k a is = (k, slice_get_within m.actions k a is, get_or_from_slice_get m.actions k a a is)
+-- ---- the scale
 
 scale_positive : (n : ℕ) → pos 0 <ℤ pos (10 ^ 6 * (10 ^ 12) ^ n)
 scale_positive n = let power : 1 ≤ (10 ^ 12) ^ n = one-le-pow n (10 ^ 12) (omega arith) in omega (arith, ints)
@@ -195,11 +187,9 @@ module _ (m : Process) (valid : IsValid m) (w : List ℕ → ℤ) (policy : List
         (begun_below rest_of (w s) r (pos 1000000) (residual_nonnegative s is) (natural_nonnegative 1000000))
     policy_keeps (suc n) s is =
         let chosen = numbered m.actions (policy s) (is_policy s is) in
-        let later = return_of_policy m w policy n in
-        let by_policy : return_of_policy m w policy (suc n) s ≡ exact_return m (scale_of m ^ suc n) later chosen.0 s =
-        ap (λ (o : Option Action). elim o [ None ↦ pos 0 | Some a ↦ exact_return m (scale_of m ^ suc n) later a s ]) chosen.1 in
-        rw by_policy
-        (step_keeps_below discounted chosen.0 (offered_by m (policy s) chosen.0 chosen.1) s is n later chosen.1 (λ t there. policy_keeps n t there))
+        rw (step-return_of_policy m w policy n s chosen.0 chosen.1)
+        (step_keeps_below discounted chosen.0 (offered_by m (policy s) chosen.0 chosen.1) s is n (return_of_policy m w policy n) chosen.1
+        (λ t there. policy_keeps n t there))
 
   -- a discount of one or more leaves nothing to compare
   no_rest : (n : ℕ) (gain : ℤ) → 1000000 < m.discount → pos 0 ≤ℤ r → IsWithinError m r n gain

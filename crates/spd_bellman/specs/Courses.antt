@@ -1,5 +1,5 @@
 -- Courses of action and policies, and their exact returns in whole numbers: nothing is rounded.
-use Rattle.std.specs.Prelude.{ℕ, zero, suc, ◌^◌, ◌<◌, List, length, Contains, ℤ, pos, ◌+ℤ◌, ◌*ℤ◌, slice_get, Some, None}
+use Rattle.std.specs.Prelude.{ℕ, zero, suc, ◌^◌, ◌≡◌, ◌<◌, List, length, Contains, ℤ, pos, ◌+ℤ◌, ◌*ℤ◌, slice_get, Some, None}
 use Rattle.spd_model.specs.declared.process.Action.{Action}
 use Rattle.spd_model.specs.Process.{Process}
 use Rattle.spd_model.specs.States.{sizes, IsState, sum_over_states}
@@ -33,3 +33,9 @@ return_of_policy m w policy (suc n) s = elim (slice_get m.actions (policy s)) [
   | None ↦ pos 0
   | Some a ↦ exact_return m (scale_of m ^ suc n) (return_of_policy m w policy n) a s
 ]
+
+-- A policy is one way to act among the courses: from each state some course of n steps returns what the policy does, whatever the
+-- end is worth.
+abbrev pub IsAmongCourses : Process → (List ℕ → ℕ) → Type 0
+IsAmongCourses m policy = (n : ℕ) (s : List ℕ) → IsState (sizes m) s
+    → (course : Course m n) × ((w : List ℕ → ℤ) → return_of_course m w course s ≡ return_of_policy m w policy n s)

@@ -11,7 +11,7 @@ ghost use Rattle.spd_model.specs.States.{sizes, IsState, sum_over_states};
 ghost use Rattle.spd_model.specs.Chances.{IsValid, joint, scale_of};
 ghost use Rattle.spd_model.specs.Backup.{low_of, high_of, policy_of};
 ghost use Rattle.spd_model.specs.Turns.{residual_of};
-ghost use Rattle.spd_bellman.specs.Courses.{IsPolicy, exact_return};
+ghost use Rattle.spd_bellman.specs.Courses.{IsPolicy, IsAmongCourses, exact_return};
 ghost use Rattle.spd_bellman.specs.Certificate.{Holds};
 ghost use Rattle.spd_bellman.specs.Bound.{IsBoundAbove, IsBoundBelow, IsPolicyNear, IsNearOptimal};
 
@@ -31,6 +31,11 @@ pub fn law_enclosure()
         → IsState (sizes m) s → (pos (scale_of m) *ℤ low_of m w a s) ≤ℤ exact_return m (scale_of m) w a s }
     ensures above { (m : Process) → IsValid m → (w : List ℕ → ℤ) (a : Action) → Contains m.actions a → (s : List ℕ)
         → IsState (sizes m) s → exact_return m (scale_of m) w a s ≤ℤ (pos (scale_of m) *ℤ high_of m w a s) }
+{}
+
+/// To follow a policy is a course of action, so what holds of every course holds of it.
+pub fn law_policy()
+    ensures { (m : Process) (policy : List ℕ → ℕ) → IsPolicy m policy → IsAmongCourses m policy }
 {}
 
 /// Where a certificate holds, no course of action returns more than the value plus the residual over one minus the
