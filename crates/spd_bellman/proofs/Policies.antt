@@ -20,7 +20,7 @@ numbered (x ∷ xs) (suc k) near = numbered xs k (omega arith)
 pub offered_by : (m : Process) (k : ℕ) (a : Action) → slice_get m.actions k ≡ Some a → Contains m.actions a
 offered_by m k a is = (k, slice_get_within m.actions k a is, get_or_from_slice_get m.actions k a a is)
 
--- one step by the policy at a state with this action
+-- the return of one step more by the policy, at a state to which it gives this action
 pub step-return_of_policy : (m : Process) (w : List ℕ → ℤ) (policy : List ℕ → ℕ) (n : ℕ) (s : List ℕ) (a : Action)
     → slice_get m.actions (policy s) ≡ Some a
     → return_of_policy m w policy (suc n) s ≡ exact_return m (scale_of m ^ suc n) (return_of_policy m w policy n) a s
@@ -34,6 +34,7 @@ module _ (m : Process) (policy : List ℕ → ℕ) (is_policy : IsPolicy m polic
   abbrev Tested : ℕ → Type 0
   Tested k = (k < length m.actions) ⊎ (length m.actions ≤ k)
 
+  -- the policy's action
   abbrev first_of_policy : (k : ℕ) → Tested k → (a : Action) × Contains m.actions a
   first_of_policy k (inl near) = let chosen = numbered m.actions k near in (chosen.0, offered_by m k chosen.0 chosen.1)
   first_of_policy k (inr far) = (other, offered)
@@ -48,7 +49,8 @@ module _ (m : Process) (policy : List ℕ → ℕ) (is_policy : IsPolicy m polic
     abbrev IsSame : ℕ → List ℕ → Type 0
     IsSame n s = return_of_course m w (course_of_policy n s) s ≡ return_of_policy m w policy n s
 
-    one_more : (n : ℕ) → ((t : List ℕ) → IsState (sizes m) t → IsSame n t) → (s : List ℕ) → IsState (sizes m) s → (tested : Tested (policy s))
+    one_more : (n : ℕ) → ((t : List ℕ) → IsState (sizes m) t → IsSame n t) → (s : List ℕ) → IsState (sizes m) s
+        → (tested : Tested (policy s))
         → let first = first_of_policy (policy s) tested in
         return_of_course m w (act first.0 first.1 (course_of_policy n)) s ≡ return_of_policy m w policy (suc n) s
     one_more n same s is (inl near) =
@@ -63,6 +65,7 @@ module _ (m : Process) (policy : List ℕ → ℕ) (is_policy : IsPolicy m polic
     same_return zero s is = refl
     same_return (suc n) s is = one_more n (same_return n) s is (cases_lt (policy s) (length m.actions))
 
+-- from each state some course returns what the policy does
 pub among_courses : (m : Process) (policy : List ℕ → ℕ) → IsPolicy m policy → IsAmongCourses m policy
 among_courses m policy is_policy n s is =
     let chosen = numbered m.actions (policy s) (is_policy s is) in

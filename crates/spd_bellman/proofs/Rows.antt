@@ -103,12 +103,15 @@ mixing = record {
 abbrev first : List ℕ → ℤ
 first = at (sizes mixing) (turn mixing (pos 0) 1)
 
--- at turn 1 the exact expected return at one is between the two bounds, which are one unit apart
+-- at turn 1 the exact expected return at one is between the two bounds, which are one unit, 10^18 parts, apart
 bounds-mixing : (low_of mixing first mix (0 ∷ []) ≡ pos 1249999999) × (high_of mixing first mix (0 ∷ []) ≡ pos 1250000000)
 unfolding shape-the_row-Tree-0 hidden-the_row-Tree-0 denote.Hole.Carrier.hidden
 bounds-mixing = (refl, refl)
 
-return-mixing : exact_return mixing (scale_of mixing) first mix (0 ∷ []) ≡ pos 1249999999666500000000000000
+scale-mixing : scale_of mixing ≡ 10 ^ 18
+scale-mixing = refl
+
+return-mixing : exact_return mixing (scale_of mixing) first mix (0 ∷ []) ≡ pos (12499999996665 * 10 ^ 14)
 unfolding shape-the_row-Tree-0 hidden-the_row-Tree-0 denote.Hole.Carrier.hidden
 return-mixing = refl
 
