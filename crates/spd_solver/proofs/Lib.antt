@@ -8,3 +8,5 @@ pub mod SmallNumberLaws
 pub mod SmallTreeLaws
 pub mod SmallTreesTaken
 pub mod SmallFilesTaken
+pub mod SmallTreesLawful
+pub mod SmallLawful
