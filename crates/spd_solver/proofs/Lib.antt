@@ -10,3 +10,5 @@ pub mod SmallTreesTaken
 pub mod SmallFilesTaken
 pub mod SmallTreesLawful
 pub mod SmallLawful
+pub mod SmallReadLaws
+pub mod SmallTreesAgain
