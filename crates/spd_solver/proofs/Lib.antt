@@ -12,3 +12,4 @@ pub mod SmallTreesLawful
 pub mod SmallLawful
 pub mod SmallReadLaws
 pub mod SmallTreesAgain
+pub mod SmallFilesAgain

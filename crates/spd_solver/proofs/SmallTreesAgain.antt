@@ -84,10 +84,10 @@ apart : (text : List ℕ) (others : List (List ℕ)) → ((j : ℕ) (d : List �
 apart text [] differ = tt
 apart text (other ∷ others) differ = (differ 0 [] (omega arith), apart text others (λ j d within. differ (suc j) d (omega arith)))
 
-apart_first : (text : List ℕ) (others : List (List ℕ)) → AreDistinct (text ∷ others) → IsApart text others
+pub apart_first : (text : List ℕ) (others : List (List ℕ)) → AreDistinct (text ∷ others) → IsApart text others
 apart_first text others distinct = apart text others (λ j d within. distinct 0 (suc j) d (omega arith) (omega arith))
 
-distinct_rest : (text : List ℕ) (others : List (List ℕ)) → AreDistinct (text ∷ others) → AreDistinct others
+pub distinct_rest : (text : List ℕ) (others : List (List ℕ)) → AreDistinct (text ∷ others) → AreDistinct others
 distinct_rest text others distinct i j d before within = distinct (suc i) (suc j) d (omega arith) (omega arith)
 
 -- the places of other texts stay free
@@ -160,3 +160,56 @@ fresh_at_first : (var : Var) (role : Role) (depth : ℕ) (branches : Branches) (
 fresh_at_first var role depth none kids means = tt
 fresh_at_first var role depth (branch text shape others) kids means =
     (means.0, means.2, free_at (length var.values) means.0 (value_within var text means.0 means.2), fresh_at_first var role depth others kids means.5)
+
+module _ (role : Role) (var : Var) (some : 0 < length var.values) where
+  leaf_again : (depth : ℕ) (text : List ℕ) (n : ℕ) (t : Tree) (rest : List Token) → IsNumber (most_digits role) 12 text n → t ≡ Leaf (pos n)
+      → tree_at role var (suc depth) (opening ∷ word text ∷ closing ∷ rest) ≡ Some (t, rest)
+  unfolding tree_at leaf_at
+  leaf_again depth text n t rest is same =
+      let step : List ℕ × List Token → Option (Tree × List Token) = λ head. tree_step (leaf_at role head.0) (inside_at (tree_at role var depth) role var head.0 head.1) (closing_at head.1) in
+      ap (λ (o : Option (List Token)). o >>= λ inside. word_at inside >>= step) (opening_again (word text ∷ closing ∷ rest))
+      ∙ ap (λ (o : Option (List ℕ × List Token)). o >>= step) (word_again text (closing ∷ rest))
+      ∙ ap (tree_step (leaf_at role text) (inside_at (tree_at role var depth) role var text (closing ∷ rest))) (closing_again rest)
+      ∙ ap (λ (o : Option ℕ). o >>= λ m. Some (Leaf (pos m), rest)) (number_again (most_digits role) 12 text n is)
+      ∙ ap (λ (u : Tree). Some (u, rest)) (sym same)
+
+  inside_again : (depth : ℕ) → ((shape : Shape) (t : Tree) (rest : List Token) → MeansTree role var depth shape t → tree_at role var depth (tokens_of_tree shape ++ rest) ≡ Some (t, rest))
+      → (text : List ℕ) (branches : Branches) (primed : Bool) (kids : List Tree) (rest : List Token) → IsHead role var text primed → length kids ≡ length var.values
+      → length (named branches) ≡ length var.values → AreDistinct (named branches) → MeansKids role var depth branches kids
+      → inside_at (tree_at role var depth) role var text (tokens_of_branches branches ++ closing ∷ rest) ≡ Some (Branch 0 primed kids, rest)
+  unfolding inside_at
+  inside_again depth again text branches primed kids rest head as_many count distinct means =
+      let n = length var.values in
+      let free : List (Option Tree) = replicate n None in
+      let tree = tree_at role var depth in
+      let inside = tokens_of_branches branches ++ closing ∷ rest in
+      let agrees : Agrees free kids = subst (λ (m : ℕ). Agrees (replicate m None) kids) as_many (Agrees-free kids) in
+      let all = branches_again role var depth tree again branches free kids (closing ∷ rest) agrees (fresh_at_first var role depth branches kids means) distinct means in
+      let read : branches_at tree var n free inside ≡ Some (all.out, closing ∷ rest) = ap (λ (m : ℕ). branches_at tree var m free inside) (sym count) ∙ all.read in
+      let full : free_count all.out ≡ 0 = omega (arith, all.left, free_count-free n, count) in
+      ap (λ (o : Option Bool). o >>= λ p. branches_at tree var n free inside >>= λ b. closing_at b.1 >>= λ more. all_of b.0 >>= λ ks. Some (Branch 0 p ks, more)) (head_again role var text primed head)
+      ∙ ap (λ (o : Option (List (Option Tree) × List Token)). o >>= λ b. closing_at b.1 >>= λ more. all_of b.0 >>= λ ks. Some (Branch 0 primed ks, more)) read
+      ∙ ap (λ (o : Option (List Token)). o >>= λ more. all_of all.out >>= λ ks. Some (Branch 0 primed ks, more)) (closing_again rest)
+      ∙ ap (λ (o : Option (List Tree)). o >>= λ ks. Some (Branch 0 primed ks, rest)) (all_of-again all.out kids all.agrees full)
+
+  -- branches do not begin with the end of their brackets
+  goes_on : (branches : Branches) (rest : List Token) → length (named branches) ≡ length var.values → closing_at (tokens_of_branches branches ++ rest) ≡ None
+  unfolding closing_at
+  goes_on none rest count = absurd (omega (arith, count, some))
+  goes_on (branch text shape others) rest count = refl
+
+  -- what means a tree is read as it, whatever follows
+  pub tree_again : (depth : ℕ) (shape : Shape) (t : Tree) (rest : List Token) → MeansTree role var depth shape t → tree_at role var depth (tokens_of_tree shape ++ rest) ≡ Some (t, rest)
+  unfolding tree_at
+  tree_again zero (number text) t rest means = absurd means
+  tree_again zero (choice text branches) t rest means = absurd means
+  tree_again (suc depth) (number text) t rest means = leaf_again depth text means.0 t rest means.1 means.2
+  tree_again (suc depth) (choice text branches) t rest means =
+      let step : List ℕ × List Token → Option (Tree × List Token) = λ head. tree_step (leaf_at role head.0) (inside_at (tree_at role var depth) role var head.0 head.1) (closing_at head.1) in
+      let inside = tokens_of_branches branches ++ closing ∷ rest in
+      ap (λ (ts : List Token). tree_at role var (suc depth) (opening ∷ word text ∷ ts)) (append_assoc (tokens_of_branches branches) (closing ∷ []) rest)
+      ∙ ap (λ (o : Option (List Token)). o >>= λ inside. word_at inside >>= step) (opening_again (word text ∷ inside))
+      ∙ ap (λ (o : Option (List ℕ × List Token)). o >>= step) (word_again text inside)
+      ∙ ap (tree_step (leaf_at role text) (inside_at (tree_at role var depth) role var text inside)) (goes_on branches (closing ∷ rest) means.5)
+      ∙ inside_again depth (tree_again depth) text branches means.0 means.1 rest means.2 means.4 means.5 means.6 means.7
+      ∙ ap (λ (u : Tree). Some (u, rest)) (sym means.3)

@@ -1,6 +1,6 @@
 //! A whole file: the variable, the actions, the reward, the discount and the tolerance.
 
-ghost use Rattle.std.specs.Prelude.{◌≡◌, ◌∷◌, [], ◌++◌, ◌<◌, ◌≤◌, ◌^◌, length, map, Some, IfOk, IsErrOf, IsTrue, is_some, option_map, pos};
+ghost use Rattle.std.specs.Prelude.{ℕ, List, ◌≡◌, ◌∷◌, [], ◌++◌, ◌<◌, ◌≤◌, ◌^◌, length, map, Some, IfOk, IsErrOf, IsTrue, is_some, option_map, pos};
 ghost use Rattle.std.specs.List.{list_all, list_any};
 ghost use Rattle.std.specs.Str.{bytes_eq};
 ghost use Rattle.spd_model.specs.Names.{is_value_name};
@@ -296,4 +296,10 @@ pub(crate) fn read_small(alloc: Global, bytes: &[u8]) -> Result<Model, Unread>
     ensures refused { IsErrOf result Refused → (m : Process) → IsSmall bytes.now m → ⊥ }
 {
     read_model(alloc, bytes)
+}
+
+/// A file of the small form describes one model.
+pub(crate) fn describes_one()
+    ensures { (bytes : List ℕ) (m n : Process) → IsSmall bytes m → IsSmall bytes n → m ≡ n }
+{
 }
