@@ -13,3 +13,8 @@ pub mod SmallNumberLaws
 pub mod SmallTreeLaws
 pub mod SmallTreesTaken
 pub mod SmallFilesTaken
+pub mod SmallTreesLawful
+pub mod SmallLawful
+pub mod SmallReadLaws
+pub mod SmallTreesAgain
+pub mod SmallFilesAgain

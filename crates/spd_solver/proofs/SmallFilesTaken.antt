@@ -66,7 +66,7 @@ variable_of_takes name values var e =
       least = ltb-false _ _ three.1;
     })
 
-variable_takes : (tokens : List Token) (x : Var × List Token) → variable_at tokens ≡ Some x
+pub variable_takes : (tokens : List Token) (x : Var × List Token) → variable_at tokens ≡ Some x
     → (tokens ≡ opening ∷ word x.0.name ∷ map word x.0.values ++ closing ∷ x.1) × IsVariable x.0 × (length x.0.values ≤ 64)
 unfolding variable_at
 variable_takes tokens x e =
@@ -100,7 +100,7 @@ record TookAction (var : Var) (tokens : List Token) (x : Action × List Token) :
   of_variable : text.variable ≡ var.name
   means : MeansTree Table var 300 text.table table
 
-action_of_takes : (var : Var) (name variable : List ℕ) (table : Tree) (a : Action) → action_of var name variable table ≡ Some a
+pub action_of_takes : (var : Var) (name variable : List ℕ) (table : Tree) (a : Action) → action_of var name variable table ≡ Some a
     → (a ≡ record { name = name; tables = table ∷ []; cost = [] }) × IsTrue (is_name name) × (variable ≡ var.name)
 unfolding action_of
 action_of_takes var name variable table a e =
@@ -140,12 +140,12 @@ action_takes var tokens x e =
     })
 
 -- actions that were read one after the other
-record TookActions (var : Var) (n : ℕ) (tokens : List Token) (x : List Action × List Token) : Type 0 where
-  texts : List ActionText
-  spelled : tokens ≡ flat_map tokens_of_action texts ++ x.1
-  means : MeansActions var texts x.0
-  few : length texts ≤ n
-  as_many : length x.0 ≡ length texts
+pub record TookActions (var : Var) (n : ℕ) (tokens : List Token) (x : List Action × List Token) : Type 0 where
+  pub texts : List ActionText
+  pub spelled : tokens ≡ flat_map tokens_of_action texts ++ x.1
+  pub means : MeansActions var texts x.0
+  pub few : length texts ≤ n
+  pub as_many : length x.0 ≡ length texts
 
 no_actions : (var : Var) (n : ℕ) (tokens : List Token) → TookActions var n tokens ([], tokens)
 no_actions var n tokens = record { texts = []; spelled = refl; means = refl; few = omega arith; as_many = refl }
@@ -179,13 +179,13 @@ actions_take var (suc n) tokens x e = more_actions var n tokens (actions_take va
 -- ---- the settings
 
 -- a discount and a tolerance that were read to the end
-record TookSettings (tokens : List Token) (x : ℕ × ℕ) : Type 0 where
-  discount : List ℕ
-  tolerance : List ℕ
-  spelled : tokens ≡ word (codes "discount") ∷ word discount ∷ word (codes "tolerance") ∷ word tolerance ∷ []
-  discount_is : IsNumber 6 6 discount x.0
-  below_one : x.0 < 1000000
-  tolerance_is : IsNumber 9 9 tolerance x.1
+pub record TookSettings (tokens : List Token) (x : ℕ × ℕ) : Type 0 where
+  pub discount : List ℕ
+  pub tolerance : List ℕ
+  pub spelled : tokens ≡ word (codes "discount") ∷ word discount ∷ word (codes "tolerance") ∷ word tolerance ∷ []
+  pub discount_is : IsNumber 6 6 discount x.0
+  pub below_one : x.0 < 1000000
+  pub tolerance_is : IsNumber 9 9 tolerance x.1
 
 discount_takes : (text : List ℕ) (n : ℕ) → discount_of text ≡ Some n → IsNumber 6 6 text n × (n < 1000000)
 unfolding discount_of
@@ -195,7 +195,7 @@ discount_takes text n e =
     let same : b.0 ≡ n = cc in
     subst (λ (m : ℕ). IsNumber 6 6 text m × (m < 1000000)) same (number_takes 6 6 text b.0 b.1, ltb-true _ _ g.0)
 
-settings_take : (tokens : List Token) (x : ℕ × ℕ) → settings_at tokens ≡ Some x → TookSettings tokens x
+pub settings_take : (tokens : List Token) (x : ℕ × ℕ) → settings_at tokens ≡ Some x → TookSettings tokens x
 unfolding settings_at
 settings_take tokens x e =
     let last : List ℕ → List ℕ × List Token → Option (ℕ × ℕ) = λ discount tolerance.
@@ -226,7 +226,7 @@ settings_take tokens x e =
 
 -- ---- the file
 
-named_actions_take : (var : Var) (tokens : List Token) (x : List Action × List Token) → named_actions_at var tokens ≡ Some x
+pub named_actions_take : (var : Var) (tokens : List Token) (x : List Action × List Token) → named_actions_at var tokens ≡ Some x
     → TookActions var 64 tokens x × (1 ≤ length x.0) × AreDistinct (map (λ (a : Action). a.name) x.0)
 unfolding named_actions_at
 named_actions_take var tokens x e =
@@ -271,7 +271,7 @@ spelled_parts tokens o k x c a r t name values actions reward end e1 e2 e3 e4 e5
     ∙ ap (λ (ts : List Token). opening ∷ word (codes "variables") ∷ opening ∷ word name ∷ (values ++ closing ∷ ts)) f4
 
 -- the process of these parts
-abbrev process : Var → List Action → Tree → ℕ × ℕ → Process
+abbrev pub process : Var → List Action → Tree → ℕ × ℕ → Process
 process var actions reward s = record { vars = var ∷ []; dds = []; actions = actions; reward = reward ∷ []; discount = s.0; tolerance = pos s.1 }
 
 means_parts : (var : Var) (tokens : List Token) (a : List Action × List Token) (shape : Shape) (reward : Tree) (others : List Token) (s : ℕ × ℕ)

@@ -119,7 +119,7 @@ parts_again whole (d ∷ ds) all =
     ∙ ap (λ (xs : List ℕ). Some (xs, drop (length whole + 1) text)) (take_at whole (46 ∷ d ∷ ds) (length whole) refl)
     ∙ ap (λ (xs : List ℕ). Some (whole, xs)) behind
 
-not_zero : (w : ℕ) (b : Bool) → eqb w 0 ≡ b → 0 < w → b ≡ false
+pub not_zero : (w : ℕ) (b : Bool) → eqb w 0 ≡ b → 0 < w → b ≡ false
 not_zero w true is some = let none : w ≡ 0 = eqb-true _ _ is in absurd (omega arith)
 not_zero w false is some = refl
 

@@ -70,7 +70,7 @@ fill_takes more slots None e = absurd cc
 fill_takes more slots (Some None) e = (refl, cc)
 fill_takes more slots (Some (Some kid)) e = absurd cc
 
-filled_takes : (slots more : List (Option Tree)) (v : ℕ) (kid : Tree) → filled slots v kid ≡ Some more → (slice_get slots v ≡ Some None) × (more ≡ slice_set slots v (Some kid))
+pub filled_takes : (slots more : List (Option Tree)) (v : ℕ) (kid : Tree) → filled slots v kid ≡ Some more → (slice_get slots v ≡ Some None) × (more ≡ slice_set slots v (Some kid))
 unfolding filled
 filled_takes slots more v kid e = let f = fill_takes (slice_set slots v (Some kid)) more (slice_get slots v) e in (f.0, sym f.1)
 

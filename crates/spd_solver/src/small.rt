@@ -4,4 +4,6 @@ mod file;
 mod lexer;
 mod trees;
 mod unread;
+pub(crate) use file::read_small;
+pub(crate) use unread::Unread;
 mod words;

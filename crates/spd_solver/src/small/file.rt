@@ -1,19 +1,22 @@
 //! A whole file: the variable, the actions, the reward, the discount and the tolerance.
 
-ghost use Rattle.std.specs.Prelude.{◌≡◌, ◌∷◌, [], ◌++◌, ◌<◌, ◌≤◌, ◌^◌, length, map, Some, IfOk, IsTrue, is_some, option_map, pos};
+ghost use Rattle.std.specs.Prelude.{ℕ, List, ◌≡◌, ◌∷◌, [], ◌++◌, ◌<◌, ◌≤◌, ◌^◌, length, map, Some, IfOk, IsErrOf, IsTrue, is_some, option_map, pos};
 ghost use Rattle.std.specs.List.{list_all, list_any};
 ghost use Rattle.std.specs.Str.{bytes_eq};
 ghost use Rattle.spd_model.specs.Names.{is_value_name};
 ghost use Rattle.spd_model.specs.declared.process.Action.{Action as ActionValue};
 ghost use Rattle.spd_solver.specs.SmallToken.{tokens_of};
 ghost use Rattle.spd_solver.specs.SmallReading.{Gives, are_distinct, words_at, variable_of, variable_at, action_of, action_at, begins_action, actions_at, named_actions_at, discount_of, settings_at, file_at};
+ghost use Rattle.spd_model.specs.Process.{Process};
+ghost use Rattle.spd_solver.specs.declared.small.unread.Unread.TheVariants.{Refused};
+ghost use Rattle.spd_solver.specs.Small.{IsSmall};
 ghost use Rattle.spd_solver.specs.SmallContents.{process_of};
 
 use crate::small::lexer::{after_keyword, close, keyword, next_word, open, token_at, word};
 use crate::small::trees::{Role, TreeReader};
 use crate::small::unread::Unread;
 use crate::small::words::{is_name, is_value_name, number};
-use spd_model::{Action, Name, Tree, Var};
+use spd_model::{Action, Model, Name, Tree, Var};
 use sqlite_items::Items;
 use std::alloc::{AllocError, Global};
 
@@ -255,4 +258,48 @@ fn read_contents(alloc: Global, bytes: &[u8]) -> Result<Contents, Unread>
         discount,
         tolerance,
     })
+}
+
+/// The model that a file describes, exactly as reading on tokens gives it.
+fn read_model(alloc: Global, bytes: &[u8]) -> Result<Model, Unread>
+    ensures { Gives (λ m. m) result (file_at (tokens_of bytes.now)) }
+{
+    let contents = read_contents(alloc, bytes)?;
+    let Contents {
+        var,
+        actions,
+        reward,
+        discount,
+        tolerance,
+    } = contents;
+    let vars = only(alloc, var)?;
+    let dds = Items::new(alloc);
+    let reward = only(alloc, reward)?;
+    let tolerance = tolerance as i128;
+    Ok(Model {
+        vars,
+        dds,
+        actions,
+        reward,
+        discount,
+        tolerance,
+    })
+}
+
+/// The model that a file of the small form describes. What is refused describes none.
+pub(crate) fn read_small(alloc: Global, bytes: &[u8]) -> Result<Model, Unread>
+    // What is read is a file of the small form, and describes this model.
+    ensures found { IfOk result (λ m. IsSmall bytes.now m) }
+    // It describes no other model.
+    ensures only { IfOk result (λ m. (other : Process) → IsSmall bytes.now other → other ≡ m) }
+    // What is refused describes no model.
+    ensures refused { IsErrOf result Refused → (m : Process) → IsSmall bytes.now m → ⊥ }
+{
+    read_model(alloc, bytes)
+}
+
+/// A file of the small form describes one model.
+pub(crate) fn describes_one()
+    ensures { (bytes : List ℕ) (m n : Process) → IsSmall bytes m → IsSmall bytes n → m ≡ n }
+{
 }
