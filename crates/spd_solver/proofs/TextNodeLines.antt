@@ -10,18 +10,18 @@ use Rattle.spd_solver.specs.TextParts.{spaced}
 use Rattle.spd_solver.specs.TextNodes.{distinct, leaf_line, leaf_lines, number_among, numbers_among, branch_line}
 use Rattle.spd_solver.proofs.TextLines.{spaced-append, joined-spaced}
 
--- an entry that is among the leaves, and one that isn't
-pub distinct-kept : {X : Type 0} (same : X → X → Bool) (table : List X) (i : ℕ) (x : X) (leaves : List X) → i < length table → x ≡ get_or table i x → leaves ≡ distinct same (take i table)
-    → list_any (λ y. same y x) leaves ≡ true → leaves ≡ distinct same (take (i + 1) table)
-distinct-kept {X} same table i x leaves within is before there =
+-- an entry that is among the leaves, and one that isn't; `seen` are the leaves that were looked at
+pub distinct-kept : {X : Type 0} (same : X → X → Bool) (table : List X) (i : ℕ) (x : X) (old seen new : List X) → i < length table → x ≡ get_or table i x → old ≡ distinct same (take i table)
+    → seen ≡ old → list_any (λ y. same y x) seen ≡ true → new ≡ old → new ≡ distinct same (take (i + 1) table)
+distinct-kept {X} same table i x old seen new within is before looked there after =
     let more = fold_more (λ (kept : List X) (x : X). if list_any (λ y. same y x) kept then kept else kept ++ x ∷ []) [] table i x within in
-    sym (more ∙ rw (← before, ← is, there) refl)
+    after ∙ sym (more ∙ rw (← before, ← looked, ← is, there) refl)
 
-pub distinct-new : {X : Type 0} (same : X → X → Bool) (table : List X) (i : ℕ) (x : X) (leaves new : List X) → i < length table → x ≡ get_or table i x → leaves ≡ distinct same (take i table)
-    → list_any (λ y. same y x) leaves ≡ false → new ≡ leaves ++ x ∷ [] → new ≡ distinct same (take (i + 1) table)
-distinct-new {X} same table i x leaves new within is before absent after =
+pub distinct-new : {X : Type 0} (same : X → X → Bool) (table : List X) (i : ℕ) (x : X) (old seen new : List X) → i < length table → x ≡ get_or table i x → old ≡ distinct same (take i table)
+    → seen ≡ old → list_any (λ y. same y x) seen ≡ false → new ≡ old ++ x ∷ [] → new ≡ distinct same (take (i + 1) table)
+distinct-new {X} same table i x old seen new within is before looked absent after =
     let more = fold_more (λ (kept : List X) (x : X). if list_any (λ y. same y x) kept then kept else kept ++ x ∷ []) [] table i x within in
-    after ∙ sym (more ∙ rw (← before, ← is, absent) refl)
+    after ∙ ap (λ (kept : List X). kept ++ x ∷ []) (sym looked) ∙ sym (more ∙ rw (← before, ← looked, ← is, absent) refl)
 
 pub enumerate_from-append : {X : Type 0} (n : ℕ) (xs ys : List X) → enumerate_from n (xs ++ ys) ≡ enumerate_from n xs ++ enumerate_from (n + length xs) ys
 enumerate_from-append n [] ys = let e : n + 0 ≡ n = omega arith in rw e refl
