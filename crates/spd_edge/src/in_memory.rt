@@ -27,7 +27,8 @@ fn next_number(number: Option<u64>) -> Option<u64>
     }
 }
 
-/// A source in memory.
+/// A source in memory. A call that doesn't fail gives as many bytes as the buffer, `most` and what
+/// is left allow.
 #[derive(Drop)]
 pub struct MemIn {
     name: Vec<u8>,
@@ -138,7 +139,8 @@ impl Source for MemIn {
     }
 }
 
-/// A sink in memory.
+/// A sink in memory. A call that doesn't fail takes as many bytes as the piece, `most` and the room
+/// allow. A piece that isn't empty fails where no room is left.
 #[derive(Drop)]
 pub struct MemOut {
     name: Vec<u8>,

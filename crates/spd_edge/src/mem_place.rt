@@ -25,7 +25,8 @@ fn find_put(puts: &[Put], name: &[u8]) -> Option<usize>
     puts.iter().position(|put| put.input.name() == name)
 }
 
-/// A place in memory: an input is put there under a name, and is opened by it.
+/// A place in memory: an input is put there under a name, and is opened by it. Opens of other names
+/// fail, and all these names share one count of faults.
 #[derive(Drop)]
 pub struct MemPlace {
     puts: Vec<Put>,

@@ -3,12 +3,13 @@
 ghost use Rattle.std.specs.Prelude.{◌≡◌, ◌+◌, ◌-◌, ◌^◌, ◌<◌, ◌≤◌, ℕ, List, [], length, take, min, None, false, IfOk, OnOk, OnErr};
 ghost use Rattle.std.specs.Io.KnownBytes.{Appends, Consumes, IsAtEnd, Keeps};
 ghost use Rattle.spd_edge.specs.Names.{is_among};
-ghost use Rattle.spd_edge.specs.Real.{stream_remaining};
+ghost use Rattle.spd_edge.specs.Real.{Openings, stream_remaining};
 
 use crate::names::Names;
 use crate::outside::{Failed, Open, Opened, Place, Sink, Source};
 use std::fs::File;
 use std::io::{Read, Stderr, Stdin, Stdout, Write};
+use std::marker::Model;
 use std::rt::Files;
 use std::{fs, io, str};
 
@@ -168,15 +169,20 @@ pub struct RealPlace<R> {
     asked: Names,
     opened: Names,
     faults: u64,
-    ghost in_range: { faults < 2 ^ 64 },
+}
+
+impl<R> Model for RealPlace<R> {
+    ghost Value = { Openings };
+
+    ghost view = { λ place. record { asked = place.asked; opened = place.opened; faults = place.faults } };
+
+    ghost invariant = { λ place. place.faults < 2 ^ 64 };
 }
 
 impl<R: Files + Input + AllocGlobal> RealPlace<R> {
     /// A place that was asked for no name. Its counts of faults begin at 0.
     pub fn new(rt: R) -> Self
-        ensures not_asked { (name : List ℕ) → ⟦<RealPlace<R> as Place>⟧.asked_in result name ≡ false }
-        ensures not_open { (name : List ℕ) → ⟦<RealPlace<R> as Place>⟧.is_open_in result name ≡ false }
-        ensures no_fault_yet { (name : List ℕ) → ⟦<RealPlace<R> as Place>⟧.faults_in result name ≡ 0 }
+        ensures { result ≡ record { asked = []; opened = []; faults = 0 } }
     {
         RealPlace {
             asked: Names::new(rt.alloc()),
