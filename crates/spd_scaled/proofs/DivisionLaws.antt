@@ -1,11 +1,11 @@
 -- Division that rounds down or up: what the quotient is bounded by, that the bounds fix it, and what follows.
 --
 -- Everything but the first two laws follows from the bounds, so no proof elsewhere needs the definitions' cases.
-use Rattle.std.proofs.Common.{◌≡◌, ℕ, zero, suc, ◌+◌, ◌*◌, ◌/◌, ◌%◌, ◌<◌, ◌≤◌, ℤ, pos, negsuc, neg_ℤ, ◌+ℤ◌, ◌-ℤ◌, ◌*ℤ◌, ◌≤ℤ◌, ◌<ℤ◌, arith, ap, sym, subst, ◌∙◌}
+use Rattle.std.proofs.Common.{◌≡◌, ◌<◌, ℤ, pos, negsuc, neg_ℤ, ◌+ℤ◌, ◌*ℤ◌, ◌≤ℤ◌, ◌<ℤ◌, arith, sym}
 use Rattle.std.proofs.lemmas.Int.{ints}
 use native.Mathlib.Nat.{div-add-mod', mod-lt}
-use Rattle.spd_scaled.proofs.Ring.{neg_ℤ-*ℤ, +ℤ-*ℤ, *ℤ_cancel_within, *ℤ_mono, ≤ℤ_antisymm}
-use Rattle.spd_scaled.specs.Scaled.{floor_div, ceil_div}
+use Rattle.spd_scaled.proofs.Ring.{neg_ℤ-*ℤ, +ℤ-*ℤ, *ℤ_cancel_within, ≤ℤ_antisymm}
+use Rattle.spd_scaled.specs.Scaled.{floor_div, ceil_div, IsWithin}
 
 -- ---- the bounds
 
@@ -92,14 +92,14 @@ ceil_div-+ℤ-multiple n q d p =
 
 -- ---- magnitude: a number within c times the divisor has a quotient within c
 
-pub floor_div_magnitude_low : (n d c : ℤ) → pos 0 <ℤ d → neg_ℤ (c *ℤ d) ≤ℤ n → neg_ℤ c ≤ℤ floor_div n d
-floor_div_magnitude_low n d c p h = floor_div_greatest n d (neg_ℤ c) p (omega (arith, ints, neg_ℤ-*ℤ c d))
+pub IsWithin-floor_div : (n d c : ℤ) → pos 0 <ℤ d → IsWithin (c *ℤ d) n → IsWithin c (floor_div n d)
+IsWithin-floor_div n d c p h = record {
+  low = floor_div_greatest n d (neg_ℤ c) p (omega (arith, ints, neg_ℤ-*ℤ c d));
+  high = floor_div_least n d c p (omega (arith, ints));
+}
 
-pub floor_div_magnitude_high : (n d c : ℤ) → pos 0 <ℤ d → n ≤ℤ (c *ℤ d) → floor_div n d ≤ℤ c
-floor_div_magnitude_high n d c p h = floor_div_least n d c p (omega (arith, ints))
-
-pub ceil_div_magnitude_low : (n d c : ℤ) → pos 0 <ℤ d → neg_ℤ (c *ℤ d) ≤ℤ n → neg_ℤ c ≤ℤ ceil_div n d
-ceil_div_magnitude_low n d c p h = ceil_div_greatest n d (neg_ℤ c) p (omega (arith, ints, neg_ℤ-*ℤ c d))
-
-pub ceil_div_magnitude_high : (n d c : ℤ) → pos 0 <ℤ d → n ≤ℤ (c *ℤ d) → ceil_div n d ≤ℤ c
-ceil_div_magnitude_high n d c p h = ceil_div_least n d c p h
+pub IsWithin-ceil_div : (n d c : ℤ) → pos 0 <ℤ d → IsWithin (c *ℤ d) n → IsWithin c (ceil_div n d)
+IsWithin-ceil_div n d c p h = record {
+  low = ceil_div_greatest n d (neg_ℤ c) p (omega (arith, ints, neg_ℤ-*ℤ c d));
+  high = ceil_div_least n d c p h.high;
+}

@@ -1,5 +1,6 @@
 pub mod Ring
 pub mod DivisionLaws
+pub mod Magnitude
 mod TowardZero
 pub mod UnitsLaws
 mod Rows

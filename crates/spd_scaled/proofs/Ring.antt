@@ -1,13 +1,14 @@
 -- The laws of products of whole numbers, which std's `arith` and `ints` lack.
 --
 -- `simp ring (omega (arith, ints))` proves what is linear in products: the set `ring` multiplies out, and `omega`
--- adds up. At a hypothesis: `let h' = simp ring at h in ..`. Where nothing is left to rewrite `simp` is refused.
-use Rattle.std.proofs.Common.{◌≡◌, ℕ, ◌+◌, ◌*◌, ◌<◌, ◌≤◌, ℤ, pos, negsuc, neg_ℤ, ◌+ℤ◌, ◌-ℤ◌, ◌*ℤ◌, ◌≤ℤ◌, ◌<ℤ◌, Bool, true, false, int_lt, int_le, rules, arith, ap, sym, ◌∙◌}
+-- adds up. At a hypothesis: `let h' = simp ring at h in ..`. Where nothing is left to rewrite `simp` is refused, so
+-- leave that call out. State such a fact over variables of ℤ with premises as `pos 0 ≤ℤ x`: `pos a *ℤ pos b` computes
+-- to `pos (a * b)`, which the set doesn't read.
+use Rattle.std.proofs.Common.{◌≡◌, ◌≢◌, ℕ, ◌*◌, ℤ, pos, negsuc, neg_ℤ, ◌+ℤ◌, ◌-ℤ◌, ◌*ℤ◌, ◌≤ℤ◌, ◌<ℤ◌, true, false, int_lt, int_le, rules, arith, ap, sym, ◌∙◌}
 use Rattle.std.proofs.lemmas.Int.{ints, by_lt_z}
 use Rattle.std.proofs.lemmas.Bool.Decides.{Decides-int_eq}
 use Rattle.std.specs.Ordering.{int_eq}
 use borrow.Author.Differences.{up, down, sum_is_lem, neg_is, product_is}
-use native.Mathlib.Nat.{mul-le-mul_right}
 pub use Rattle.std.proofs.Math.IntN.{*ℤ_comm, zero-*ℤ, *ℤ-zero}
 
 -- ---- products multiply out
@@ -113,22 +114,6 @@ pub *ℤ_cancel : (x y d : ℤ) → pos 0 <ℤ d → x *ℤ d ≡ y *ℤ d → x
     let high = *ℤ_cancel_≤ℤ y x d p (omega (arith, ints)) in
     omega (arith, ints)
 
--- a weight p of at least 0 keeps a magnitude: |x| ≤ c gives |p · x| ≤ p · c
-pub weighted_at_least : (p x c : ℤ) → pos 0 ≤ℤ p → neg_ℤ c ≤ℤ x → neg_ℤ (p *ℤ c) ≤ℤ (p *ℤ x)
-weighted_at_least p x c h k = let low = *ℤ_mono_right p (neg_ℤ c) x h k in rw (← *ℤ-neg_ℤ p c) low
-
-pub weighted_at_most : (p x c : ℤ) → pos 0 ≤ℤ p → x ≤ℤ c → (p *ℤ x) ≤ℤ (p *ℤ c)
-weighted_at_most p x c h k = *ℤ_mono_right p x c h k
-
--- the step of a weighted sum: one more weight p, one more value x with |x| ≤ c
-pub weighted_sum_at_least : (sum weight p x c : ℤ) → neg_ℤ (weight *ℤ c) ≤ℤ sum → pos 0 ≤ℤ p → neg_ℤ c ≤ℤ x → neg_ℤ ((weight +ℤ p) *ℤ c) ≤ℤ (sum +ℤ p *ℤ x)
-weighted_sum_at_least sum weight p x c h k l =
-    let more = weighted_at_least p x c k l in omega (arith, ints, +ℤ-*ℤ weight p c)
-
-pub weighted_sum_at_most : (sum weight p x c : ℤ) → sum ≤ℤ (weight *ℤ c) → pos 0 ≤ℤ p → x ≤ℤ c → (sum +ℤ p *ℤ x) ≤ℤ ((weight +ℤ p) *ℤ c)
-weighted_sum_at_most sum weight p x c h k l =
-    let more = weighted_at_most p x c k l in omega (arith, ints, +ℤ-*ℤ weight p c)
-
 -- ---- order, and the tests of it
 
 pub ≤ℤ_trans : (x y z : ℤ) → x ≤ℤ y → y ≤ℤ z → x ≤ℤ z
@@ -143,11 +128,29 @@ int_lt-true x y h = grind (arith, ints)
 pub int_lt-false : (x y : ℤ) → int_lt x y ≡ false → y ≤ℤ x
 int_lt-false x y h = grind (arith, ints)
 
+pub int_lt-holds : (x y : ℤ) → x <ℤ y → int_lt x y ≡ true
+int_lt-holds x y h = grind (arith, ints)
+
+pub int_lt-fails : (x y : ℤ) → y ≤ℤ x → int_lt x y ≡ false
+int_lt-fails x y h = grind (arith, ints)
+
 pub int_le-true : (x y : ℤ) → int_le x y ≡ true → x ≤ℤ y
 int_le-true x y h = grind (arith, ints)
 
 pub int_le-false : (x y : ℤ) → int_le x y ≡ false → y <ℤ x
 int_le-false x y h = grind (arith, ints)
 
+pub int_le-holds : (x y : ℤ) → x ≤ℤ y → int_le x y ≡ true
+int_le-holds x y h = grind (arith, ints)
+
+pub int_le-fails : (x y : ℤ) → y <ℤ x → int_le x y ≡ false
+int_le-fails x y h = grind (arith, ints)
+
 pub int_eq-true : (x y : ℤ) → int_eq x y ≡ true → x ≡ y
 int_eq-true x y h = search (rules, Decides-int_eq)
+
+pub int_eq-false : (x y : ℤ) → int_eq x y ≡ false → x ≢ y
+int_eq-false x y h = search (rules, Decides-int_eq)
+
+pub int_eq-holds : (x y : ℤ) → x ≡ y → int_eq x y ≡ true
+int_eq-holds x y h = search (rules, Decides-int_eq)

@@ -1,5 +1,5 @@
 -- The definitions at worked values.
-use Rattle.std.proofs.Common.{◌≡◌, pos, negsuc, refl, ◌∙◌}
+use Rattle.std.proofs.Common.{◌≡◌, pos, negsuc, refl}
 use Rattle.std.specs.Prelude.{codes}
 use Rattle.std.specs.Fmt.{digits}
 use Rattle.spd_scaled.specs.Scaled.{floor_div, ceil_div}

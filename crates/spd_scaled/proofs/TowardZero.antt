@@ -1,11 +1,11 @@
 -- The code's quotient and remainder, which round toward zero, beside the floor and the ceiling.
-use Rattle.std.proofs.Common.{◌≡◌, ℕ, zero, suc, ◌+◌, ◌*◌, ◌/◌, ◌%◌, ◌<◌, ◌≤◌, ℤ, pos, negsuc, neg_ℤ, ◌+ℤ◌, ◌-ℤ◌, ◌*ℤ◌, ◌≤ℤ◌, ◌<ℤ◌, arith, ap, sym, subst, ◌∙◌, int_div, int_rem, unsigned_abs, FitsSigned}
+use Rattle.std.proofs.Common.{◌≡◌, ℕ, zero, suc, ◌/◌, ◌%◌, ◌<◌, ◌≤◌, ℤ, pos, negsuc, neg_ℤ, ◌+ℤ◌, ◌-ℤ◌, ◌*ℤ◌, ◌≤ℤ◌, ◌<ℤ◌, arith, sym, subst, int_div, int_rem, unsigned_abs, FitsSigned}
 use Rattle.std.proofs.lemmas.Int.{ints, quot-rem, rem_below}
 use native.Mathlib.Nat.{div-add-mod', div-le_self, mul-le-mul_left}
 use Rattle.spd_scaled.proofs.Ring.{+ℤ-*ℤ, -ℤ-*ℤ}
-use Rattle.spd_scaled.proofs.DivisionLaws.{floor_div_unique, ceil_div_unique, floor_div_at_most, floor_div_next_above, ceil_div_at_least, ceil_div_last_below}
+use Rattle.spd_scaled.proofs.DivisionLaws.{floor_div_unique, ceil_div_unique, floor_div_at_most, floor_div_next_above, ceil_div_at_least, ceil_div_last_below, IsWithin-floor_div, IsWithin-ceil_div}
 use mir.Syntax.{Width}
-use Rattle.spd_scaled.specs.Scaled.{floor_div, ceil_div}
+use Rattle.spd_scaled.specs.Scaled.{floor_div, ceil_div, IsWithin}
 
 rem_small : (n d : ℤ) → pos 0 <ℤ d → int_rem n d <ℤ d
 rem_small n (pos b) p = let small = rem_below n (pos b) (omega (arith, ints)) in abs_small (int_rem n (pos b)) b small
@@ -81,3 +81,9 @@ at_least_from q n d p e = subst (λ k. n ≤ℤ (k *ℤ d)) (sym e) (ceil_div_at
 
 pub last_below_from : (q n d : ℤ) → pos 0 <ℤ d → q ≡ ceil_div n d → (q *ℤ d) <ℤ (n +ℤ d)
 last_below_from q n d p e = subst (λ k. (k *ℤ d) <ℤ (n +ℤ d)) (sym e) (ceil_div_last_below n d p)
+
+pub within_from_floor : (q n d c : ℤ) → pos 0 <ℤ d → q ≡ floor_div n d → IsWithin (c *ℤ d) n → IsWithin c q
+within_from_floor q n d c p e h = subst (IsWithin c) (sym e) (IsWithin-floor_div n d c p h)
+
+pub within_from_ceil : (q n d c : ℤ) → pos 0 <ℤ d → q ≡ ceil_div n d → IsWithin (c *ℤ d) n → IsWithin c q
+within_from_ceil q n d c p e h = subst (IsWithin c) (sym e) (IsWithin-ceil_div n d c p h)

@@ -1,9 +1,13 @@
 -- The text of a scaled number: its digits, and how long it is.
-use Rattle.std.proofs.Common.{◌≡◌, ℕ, zero, suc, ◌+◌, ◌*◌, ◌/◌, ◌%◌, ◌^◌, ◌<◌, ◌≤◌, ◌⊎◌, List, [], ◌∷◌, ◌++◌, ◌-◌, length, take, drop, take_all, ℤ, pos, negsuc, unsigned_abs, decimal, refl, inl, inr, lit<, arith, ap, sym, ◌∙◌, length-append}
+use Rattle.std.proofs.Common.{◌≡◌, ℕ, zero, suc, ◌+◌, ◌*◌, ◌/◌, ◌%◌, ◌^◌, ◌<◌, ◌≤◌, ◌⊎◌, List, [], ◌∷◌, ◌-◌, length, take, drop, take_all, ℤ, pos, negsuc, unsigned_abs, decimal, refl, inl, inr, lit<, arith, ◌∙◌, length-append}
 use Rattle.std.proofs.lemmas.Fmt.{decimal_digit, decimal_step_wide, length-decimal-le_wide}
 use Rattle.std.proofs.Math.Nat.{pow-suc, mod-lt, div-le_self}
 use Rattle.std.proofs.lemmas.Nat.{div-mul-add, mod-mul-add}
 use Rattle.std.proofs.Math.Arith.{mod-mul}
+use Rattle.std.proofs.lemmas.Int.Digits.{digits_push, digits_value_push}
+use Rattle.std.specs.Str.Parse.{AllDigits, digits_value}
+use Rattle.std.specs.Char.{digit_value}
+use Rattle.std.proofs.lemmas.Str.{digit_value_digit}
 use Rattle.spd_scaled.specs.Units.{last_digits, sign_text, units_text}
 
 pub length-last_digits : (count n : ℕ) → length (last_digits count n) ≡ count
@@ -29,12 +33,13 @@ decimal-last_digits (suc count) n h =
     let digits = digit_split front (n % 10) (omega arith) in
     let small : front < 2 * 10 ^ count = omega (arith, less_than_power count (n / 10)) in
     rw whole (
-      decimal_step_wide (front * 10 + n % 10) (omega arith) (omega (arith, pow-suc 10 count))
-      ∙ rw (digits.0, digits.1, decimal-last_digits count (n / 10) (omega (arith, pow-suc 10 count))) refl
+    decimal_step_wide (front * 10 + n % 10) (omega arith) (omega (arith, pow-suc 10 count))
+    ∙ rw (digits.0, digits.1, decimal-last_digits count (n / 10) (omega (arith, pow-suc 10 count))) refl
     )
   where
     less_than_power : (count n : ℕ) → n % 10 ^ count < 10 ^ count
     less_than_power count n = mod-lt n (power_above count)
+
     digits_shift : (count n : ℕ) → 10 ^ suc count + n % 10 ^ suc count ≡ (10 ^ count + n / 10 % 10 ^ count) * 10 + n % 10
     digits_shift count n =
         let split = mod-mul n {m = 10 ^ count} {c = 10} (power_above count) (omega arith) in rw (pow-suc 10 count) (omega (arith, split))
@@ -58,8 +63,6 @@ length-sign_text-le (negsuc n) = omega arith
 
 pub length-units_text : (places : ℕ) (n : ℤ) → length (units_text places n) ≡ length (sign_text n) + length (decimal (unsigned_abs n / 10 ^ places)) + 1 + places
 length-units_text places n =
-    let whole = decimal (unsigned_abs n / 10 ^ places) in
-    let digits = last_digits places (unsigned_abs n) in
     simp length-append (omega (arith, length-last_digits places (unsigned_abs n)))
 
 -- the text of any number of 128 bits fits
@@ -70,3 +73,22 @@ length-units_text-le places n few h =
     let below : unsigned_abs n / 10 ^ places < 10 ^ 40 = omega arith in
     let whole = length-decimal-le_wide 40 (unsigned_abs n / 10 ^ places) (omega arith) below (omega arith) in
     omega (arith, length-units_text places n)
+
+-- ---- what a reader of the text finds
+
+digit_value_is : (d : ℕ) → d < 10 → digit_value (48 + d) ≡ d
+digit_value_is d h = omega (arith, digit_value_digit (48 + d) (omega arith, omega arith))
+
+pub AllDigits-last_digits : (count n : ℕ) → AllDigits 10 (last_digits count n)
+AllDigits-last_digits zero n = tt
+AllDigits-last_digits (suc count) n =
+    digits_push 10 (last_digits count (n / 10)) (48 + n % 10) (AllDigits-last_digits count (n / 10)) (let value = digit_value_is (n % 10) (omega arith) in omega arith)
+
+pub digits_value-last_digits : (count n : ℕ) → digits_value 10 (last_digits count n) ≡ n % 10 ^ count
+digits_value-last_digits zero n = omega arith
+digits_value-last_digits (suc count) n =
+    let split = mod-mul n {m = 10 ^ count} {c = 10} (power_above count) (omega arith) in
+    let last = digit_value_is (n % 10) (omega arith) in
+    let push = digits_value_push 10 (last_digits count (n / 10)) (48 + n % 10) in
+    let rest = digits_value-last_digits count (n / 10) in
+    rw (pow-suc 10 count) (omega (arith, push, rest, last, split))

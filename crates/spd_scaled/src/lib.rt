@@ -8,3 +8,6 @@ mod text;
 
 pub use division::{ceil_div, floor_div};
 pub use text::put_units;
+
+#[cfg(test)]
+mod tests;

@@ -5,12 +5,9 @@ ghost use Rattle.spd_scaled.specs.Units.{last_digits, units_text};
 
 use itoa::Buffer;
 
-/// Bytes that hold the text of any number at 9 or 12 places.
-const TEXT_LEN: usize = 64;
-
 /// Writes `piece` from `at` on, and answers the place behind it.
-fn put(buf: &mut [u8; TEXT_LEN], at: usize, piece: &[u8]) -> usize
-    requires { at + length piece.now ≤ TEXT_LEN }
+fn put(buf: &mut [u8], at: usize, piece: &[u8]) -> usize
+    requires { at + length piece.now ≤ length buf.old }
     ensures end { result ≡ at + length piece.now }
     ensures text { take result buf.new ≡ take at buf.old ++ piece.now }
 {
@@ -32,8 +29,8 @@ fn units_of_one(places: u8) -> u128
 }
 
 /// Writes a number from `at` on, without leading zeros, and answers the place behind it.
-fn put_whole(buf: &mut [u8; TEXT_LEN], at: usize, n: u128) -> usize
-    requires { at + 40 ≤ TEXT_LEN }
+fn put_whole(buf: &mut [u8], at: usize, n: u128) -> usize
+    requires { at + 40 ≤ length buf.old }
     ensures end { result ≡ at + length (decimal n) }
     ensures within { result ≤ at + 40 }
     ensures text { take result buf.new ≡ take at buf.old ++ decimal n }
@@ -43,9 +40,9 @@ fn put_whole(buf: &mut [u8; TEXT_LEN], at: usize, n: u128) -> usize
 }
 
 /// Writes the last `places` digits of a number from `at` on, and answers the place behind them.
-fn put_places(buf: &mut [u8; TEXT_LEN], at: usize, n: u128, places: u8) -> usize
+fn put_places(buf: &mut [u8], at: usize, n: u128, places: u8) -> usize
     requires places { (places ≡ 9) ⊎ (places ≡ 12) }
-    requires room { at + 12 ≤ TEXT_LEN }
+    requires room { at + 12 ≤ length buf.old }
     ensures end { result ≡ at + places }
     ensures text { take result buf.new ≡ take at buf.old ++ last_digits places n }
 {
@@ -58,7 +55,7 @@ fn put_places(buf: &mut [u8; TEXT_LEN], at: usize, n: u128, places: u8) -> usize
 
 /// Writes `n` units of `10^-places` at the front of `buf`, and answers the length of the text: `-` for
 /// a negative number, the whole part without leading zeros, a point, and exactly `places` digits.
-/// What stands behind the text is left open.
+/// Values, rewards and costs have 9 places, probabilities 12. What stands behind the text is left open.
 pub fn put_units(n: i128, places: u8, buf: &mut [u8; 64]) -> usize
     requires { (places ≡ 9) ⊎ (places ≡ 12) }
     ensures end { result ≡ length (units_text places n) }

@@ -1,7 +1,7 @@
-use Rattle.std.proofs.Common.{◌≡◌, pos, ◌<ℤ◌, ℤ, ◌+ℤ◌, ◌-ℤ◌, ◌*ℤ◌, ◌≤ℤ◌, FitsSigned, arith, ◌∙◌, sym, subst, int_div, int_rem}
+use Rattle.std.proofs.Common.{pos, ◌<ℤ◌, ◌+ℤ◌, arith, ◌∙◌, int_div, int_rem}
 use Rattle.std.proofs.lemmas.Int.{ints, quot_is, rem_is, quot_fits, to_z-of_z}
 use mir.Syntax.{w128}
-use Rattle.spd_scaled.proofs.TowardZero.{ceil_div_from_quot, ceil_div_from_quot_more, quot_more_fits, at_least_from, last_below_from}
+use Rattle.spd_scaled.proofs.TowardZero.{ceil_div_from_quot, ceil_div_from_quot_more, quot_more_fits, at_least_from, last_below_from, within_from_ceil}
 use Rattle.spd_scaled.proofs.division.ceil_div.Goals as goal
 
 pub returns-else-n-d-gt0-clause-quotient : goal.returns-else-n-d-gt0-clause-quotient
@@ -30,3 +30,9 @@ returns-then-n-d-gt0-clause-at_least c = at_least_from _ _ _ c.requires (returns
 
 pub returns-then-n-d-gt0-clause-last_below : goal.returns-then-n-d-gt0-clause-last_below
 returns-then-n-d-gt0-clause-last_below c = last_below_from _ _ _ c.requires (returns-then-n-d-gt0-clause-quotient c)
+
+pub returns-else-n-d-gt0-clause-within : goal.returns-else-n-d-gt0-clause-within
+returns-else-n-d-gt0-clause-within c k h = within_from_ceil _ _ _ k c.requires (returns-else-n-d-gt0-clause-quotient c) h
+
+pub returns-then-n-d-gt0-clause-within : goal.returns-then-n-d-gt0-clause-within
+returns-then-n-d-gt0-clause-within c k h = within_from_ceil _ _ _ k c.requires (returns-then-n-d-gt0-clause-quotient c) h

@@ -1,6 +1,6 @@
-use Rattle.std.proofs.Common.{◌≡◌, pos, ◌<ℤ◌, ℤ, ◌+ℤ◌, ◌-ℤ◌, ◌*ℤ◌, ◌≤ℤ◌, FitsSigned, arith, ◌∙◌, sym, subst, int_div, int_rem}
+use Rattle.std.proofs.Common.{pos, ◌-ℤ◌, FitsSigned, arith, ◌∙◌, sym, subst, int_div}
 use Rattle.std.proofs.lemmas.Int.{ints, quot_is, rem_is, quot_fits, to_z-of_z}
-use Rattle.spd_scaled.proofs.TowardZero.{floor_div_from_quot, floor_div_from_quot_less, floor_div_fits, at_most_from, next_above_from}
+use Rattle.spd_scaled.proofs.TowardZero.{floor_div_from_quot, floor_div_from_quot_less, floor_div_fits, at_most_from, next_above_from, within_from_floor}
 use Rattle.spd_scaled.proofs.division.floor_div.Goals as goal
 
 pub returns-else-n-d-lt0-clause-quotient : goal.returns-else-n-d-lt0-clause-quotient
@@ -28,3 +28,9 @@ returns-then-n-d-lt0-clause-at_most c = at_most_from _ _ _ c.requires (returns-t
 
 pub returns-then-n-d-lt0-clause-next_above : goal.returns-then-n-d-lt0-clause-next_above
 returns-then-n-d-lt0-clause-next_above c = next_above_from _ _ _ c.requires (returns-then-n-d-lt0-clause-quotient c)
+
+pub returns-else-n-d-lt0-clause-within : goal.returns-else-n-d-lt0-clause-within
+returns-else-n-d-lt0-clause-within c k h = within_from_floor _ _ _ k c.requires (returns-else-n-d-lt0-clause-quotient c) h
+
+pub returns-then-n-d-lt0-clause-within : goal.returns-then-n-d-lt0-clause-within
+returns-then-n-d-lt0-clause-within c k h = within_from_floor _ _ _ k c.requires (returns-then-n-d-lt0-clause-quotient c) h
