@@ -1,0 +1,37 @@
+-- What an action comes to at a state, as numbers: its reward and the probabilities of the next values.
+use Rattle.std.specs.Prelude.{ℕ, ◌+◌, ◌*◌, ◌^◌, ◌≡◌, List, length, map, ℤ, pos, ◌+ℤ◌, ◌*ℤ◌, ◌≤ℤ◌, slice_index, slice_index_or}
+use Rattle.spd_scaled.specs.Scaled.{IsWithin}
+use Rattle.spd_model.specs.declared.process.Action.{Action}
+use Rattle.spd_model.specs.Process.{Process}
+use Rattle.spd_model.specs.Numbers.{numbers_below, sum_below}
+use Rattle.spd_model.specs.States.{sizes, table_of}
+use Rattle.spd_model.specs.Chances.{one, probability, reward_of, reward_limit}
+use Rattle.spd_model.specs.Backup.{Rounding}
+use Rattle.spd_plain.specs.declared.outlook.Outlook.{Outlook}
+
+-- the sum of the chance of each next value times what `values` has there
+abbrev pub weighted : List ℤ → List ℤ → ℤ
+weighted chances values =
+    sum_below (length chances) (λ v. slice_index_or chances v (pos 0) *ℤ slice_index_or values v (pos 0))
+
+-- the return of an action where `values` follows: its reward plus the discounted expectation, both rounded the same way
+abbrev pub return_by : Rounding → ℕ → List ℤ → Outlook → ℤ
+return_by round discount values outlook =
+    outlook.reward +ℤ round (pos discount *ℤ round (weighted outlook.chances values) one) (pos 1000000)
+
+-- chances are at least 0 and sum to one
+pub record IsDistribution (chances : List ℤ) : Type 0 where
+  pub nonnegative : (v : ℕ) → pos 0 ≤ℤ slice_index_or chances v (pos 0)
+  pub whole : sum_below (length chances) (λ v. slice_index_or chances v (pos 0)) ≡ one
+
+-- no reward passes its limit
+pub record IsOutlook (outlook : Outlook) : Type 0 where
+  pub reward : IsWithin (pos reward_limit) outlook.reward
+  pub chances : IsDistribution outlook.chances
+
+-- the greatest magnitude of a value at any turn
+abbrev pub value_limit : ℕ
+value_limit = (10 ^ 18 + 1) * 10 ^ 6
+
+pub record AreBounded (values : List ℤ) : Type 0 where
+  pub each : (k : ℕ) → IsWithin (pos value_limit) (slice_index_or values k (pos 0))
