@@ -1,0 +1,68 @@
+//! The Bellman backup at one state.
+
+ghost use Rattle.std.specs.Prelude.{◌≡◌, ◌≤◌, ◌<◌, ◌*◌, length, map, pos, All};
+ghost use Rattle.spd_scaled.specs.Scaled.{IsWithin, floor_div as floor_of, ceil_div as ceil_of};
+ghost use Rattle.spd_model.specs.Numbers.{greatest};
+ghost use Rattle.spd_plain.specs.Outlooks.{AreBounded, IsDistribution, IsOutlook, value_limit, weighted, return_by};
+
+use spd_scaled::{ceil_div, floor_div};
+
+use crate::outlook::Outlook;
+use crate::ranges::Bounds;
+
+/// One, as a probability.
+const ONE: i128 = 1_000_000_000_000;
+
+/// One, as a discount.
+const WHOLE: i128 = 1_000_000;
+
+/// The sum of the chance of each next value times what `values` has there.
+fn weighted_sum(chances: &[i128], values: &[i128]) -> i128
+    requires lengths { length values.now ≡ length chances.now }
+    requires chances { IsDistribution chances.now }
+    requires values { AreBounded values.now }
+    ensures sum { result ≡ weighted chances.now values.now }
+    ensures within { IsWithin (pos (value_limit * 1000000000000)) result }
+{
+    let mut sum = 0;
+    for value in 0..chances.len() {
+        sum += chances[value] * values[value];
+    }
+    sum
+}
+
+/// The lower and the upper bound of an action's return, where `values` follows.
+fn bounds_of(outlook: &Outlook, discount: u32, values: &[i128]) -> Bounds
+    requires lengths { length values.now ≡ length outlook.now.chances }
+    requires outlook { IsOutlook outlook.now }
+    requires discount { discount ≤ 999999 }
+    requires values { AreBounded values.now }
+    ensures low { result.low ≡ return_by floor_of discount values.now outlook.now }
+    ensures high { result.high ≡ return_by ceil_of discount values.now outlook.now }
+{
+    let sum = weighted_sum(outlook.chances.as_slice(), values);
+    let discount = discount as i128;
+    Bounds {
+        low: outlook.reward + floor_div(discount * floor_div(sum, ONE), WHOLE),
+        high: outlook.reward + ceil_div(discount * ceil_div(sum, ONE), WHOLE),
+    }
+}
+
+/// The greatest lower and the greatest upper bound over all actions.
+pub(crate) fn best_bounds(outlooks: &[Outlook], discount: u32, values: &[i128]) -> Bounds
+    requires some { 0 < length outlooks.now }
+    requires outlooks { All IsOutlook outlooks.now }
+    requires lengths { All (λ outlook. length values.now ≡ length outlook.chances) outlooks.now }
+    requires discount { discount ≤ 999999 }
+    requires values { AreBounded values.now }
+    ensures low { result.low ≡ greatest (map (return_by floor_of discount values.now) outlooks.now) }
+    ensures high { result.high ≡ greatest (map (return_by ceil_of discount values.now) outlooks.now) }
+{
+    let mut best = bounds_of(&outlooks[0], discount, values);
+    for outlook in &outlooks[1..] {
+        let bounds = bounds_of(outlook, discount, values);
+        best.low = best.low.max(bounds.low);
+        best.high = best.high.max(bounds.high);
+    }
+    best
+}

@@ -1,0 +1,6 @@
+//! Value iteration over plain tables, with one entry for each state: the solver that the diagrams are compared with.
+#![tactic(auto)]
+
+mod backup;
+mod outlook;
+mod ranges;
