@@ -6,10 +6,9 @@ mod state;
 mod tree;
 
 pub use process::{Action, Model, Var};
+use sqlite_items::Items;
 pub use state::State;
 pub use tree::{Kids, Tree};
-
-use sqlite_items::Items;
 
 /// The bytes of a name: of a variable, a value, an action or a decision diagram.
 pub type Name = Items<u8>;

@@ -11,9 +11,5 @@ pub enum Tree {
     /// The tree of the named decision diagram of this number.
     Named(u32),
     /// A choice by the value of a variable: its present value, or its next value where `primed`.
-    Branch {
-        var: u32,
-        primed: bool,
-        kids: Kids,
-    },
+    Branch { var: u32, primed: bool, kids: Kids },
 }

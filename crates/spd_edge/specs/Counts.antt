@@ -1,0 +1,6 @@
+-- Counts of faults, which never pass 2^64 - 1.
+use Rattle.std.specs.Prelude.{ℕ, ◌+◌, ◌-◌, ◌^◌, ◌≤◌, min}
+
+-- a count rose from `before` to `now`; one that stands at its last value, 2^64 - 1, is taken as risen
+abbrev pub Rose : ℕ → ℕ → Type 0
+Rose before now = min (before + 1) (2 ^ 64 - 1) ≤ now

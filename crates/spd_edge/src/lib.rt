@@ -1,0 +1,13 @@
+//! The outside of the program: what its input is read from and its output is written to.
+//!
+//! Everything above reads through [`Source`] and [`Place`] and writes through [`Sink`].
+#![tactic(auto)]
+
+mod in_memory;
+mod names;
+mod outside;
+mod whole;
+
+pub use in_memory::{MemIn, MemOut};
+pub use outside::{Failed, Memory, Open, Opened, Place, ReadAll, Sink, Source};
+pub use whole::{read_all, write_all_of};
