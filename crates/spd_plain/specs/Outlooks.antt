@@ -1,6 +1,8 @@
 -- What an action comes to at a state, as numbers: its reward and the probabilities of the next values.
 use Rattle.std.specs.Prelude.{ℕ, ◌+◌, ◌*◌, ◌^◌, ◌≡◌, List, length, map, ℤ, pos, ◌+ℤ◌, ◌*ℤ◌, ◌≤ℤ◌, slice_index, slice_index_or}
-use Rattle.spd_scaled.specs.Scaled.{IsWithin}
+use Rattle.spd_scaled.specs.Scaled.{IsWithin, floor_div, ceil_div}
+use Rattle.spd_model.specs.declared.Side.{Side}
+use Rattle.spd_model.specs.declared.Side.TheVariants.{Above, Below}
 use Rattle.spd_model.specs.declared.process.Action.{Action}
 use Rattle.spd_model.specs.Process.{Process}
 use Rattle.spd_model.specs.Numbers.{numbers_below, sum_below}
@@ -18,6 +20,11 @@ weighted chances values =
 abbrev pub return_by : Rounding → ℕ → List ℤ → Outlook → ℤ
 return_by round discount values outlook =
     outlook.reward +ℤ round (pos discount *ℤ round (weighted outlook.chances values) one) (pos 1000000)
+
+-- how the bound of a return on a side is rounded
+abbrev pub rounding_of : Side → Rounding
+rounding_of Above = ceil_div
+rounding_of Below = floor_div
 
 -- chances are at least 0 and sum to one
 pub record IsDistribution (chances : List ℤ) : Type 0 where

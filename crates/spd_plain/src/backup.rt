@@ -2,9 +2,10 @@
 
 ghost use Rattle.std.specs.Prelude.{◌≡◌, ◌≤◌, ◌<◌, ◌*◌, length, map, pos, All};
 ghost use Rattle.spd_scaled.specs.Scaled.{IsWithin, floor_div as floor_of, ceil_div as ceil_of};
-ghost use Rattle.spd_model.specs.Numbers.{greatest};
-ghost use Rattle.spd_plain.specs.Outlooks.{AreBounded, IsDistribution, IsOutlook, value_limit, weighted, return_by};
+ghost use Rattle.spd_model.specs.Numbers.{greatest, first_place};
+ghost use Rattle.spd_plain.specs.Outlooks.{AreBounded, IsDistribution, IsOutlook, value_limit, weighted, return_by, rounding_of};
 
+use spd_model::Side;
 use spd_scaled::{ceil_div, floor_div};
 
 use crate::outlook::Outlook;
@@ -65,4 +66,46 @@ pub(crate) fn best_bounds(outlooks: &[Outlook], discount: u32, values: &[i128]) 
         best.high = best.high.max(bounds.high);
     }
     best
+}
+
+/// The bound of an action's return on a side, where `values` follows.
+fn bound_of(outlook: &Outlook, discount: u32, values: &[i128], side: Side) -> i128
+    requires lengths { length values.now ≡ length outlook.now.chances }
+    requires outlook { IsOutlook outlook.now }
+    requires discount { discount ≤ 999999 }
+    requires values { AreBounded values.now }
+    ensures { result ≡ return_by (rounding_of side) discount values.now outlook.now }
+{
+    let bounds = bounds_of(outlook, discount, values);
+    match side {
+        Side::Above => bounds.high,
+        Side::Below => bounds.low,
+    }
+}
+
+/// The number of the first action that has the greatest bound on a side.
+pub(crate) fn best_action(
+    outlooks: &[Outlook],
+    discount: u32,
+    values: &[i128],
+    side: Side,
+) -> u32
+    requires some { 0 < length outlooks.now }
+    requires few { length outlooks.now ≤ 64 }
+    requires outlooks { All IsOutlook outlooks.now }
+    requires lengths { All (λ outlook. length values.now ≡ length outlook.chances) outlooks.now }
+    requires discount { discount ≤ 999999 }
+    requires values { AreBounded values.now }
+    ensures { let bounds = map (return_by (rounding_of side) discount values.now) outlooks.now in result ≡ first_place (greatest bounds) bounds }
+{
+    let mut best = bound_of(&outlooks[0], discount, values, side);
+    let mut action = 0;
+    for number in 1..outlooks.len() {
+        let bound = bound_of(&outlooks[number], discount, values, side);
+        if best < bound {
+            best = bound;
+            action = number as u32;
+        }
+    }
+    action
 }
