@@ -55,7 +55,7 @@ max_left x y h = omega (arith, ints, int_max_is x y)
 max_right : (x y : ℤ) → x <ℤ y → int_max x y ≡ y
 max_right x y h = omega (arith, ints, int_max_is x y)
 
-not_true : (b : Bool) → (b ≡ true → ⊥) → b ≡ false
+pub not_true : (b : Bool) → (b ≡ true → ⊥) → b ≡ false
 not_true true h = absurd (h refl)
 not_true false h = refl
 

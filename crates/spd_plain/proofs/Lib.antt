@@ -1,3 +1,9 @@
 pub mod Weights
 pub mod Returns
 pub mod Best
+pub mod StateOrder
+pub mod TreeValues
+pub mod OneVariable
+pub mod Sums
+pub mod Finds
+pub mod Tests

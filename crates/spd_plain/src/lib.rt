@@ -4,3 +4,5 @@
 mod backup;
 mod outlook;
 mod ranges;
+mod states;
+mod validity;
