@@ -1,6 +1,7 @@
 -- The first entry that passes a test, looked for in order.
 use Rattle.std.proofs.Common.{◌≡◌, ℕ, suc, ◌+◌, ◌<◌, ◌≤◌, Bool, true, false, cond, List, [], ◌∷◌, ◌++◌, map, flat_map, take, take_all, drop, get_or, length, find, Option, Some, None, refl, ap, sym, ◌∙◌, subst}
-use Rattle.std.specs.Option.{option_or}
+use Rattle.std.specs.Option.{option_or, option_map, is_some}
+use Rattle.std.proofs.lemmas.Bool.{false≢true}
 use Rattle.std.proofs.Math.Seq.{split_at}
 use Rattle.std.proofs.lemmas.List.{take_more, map-append, append-nil}
 use Rattle.std.proofs.lemmas.List.Concat.{flat_map-append, flat_map_single}
@@ -48,3 +49,17 @@ find_map_none p f xs i h none = ap (λ l. find p (map f l)) (sym (take_all i xs 
 
 pub find_flat_none : {X Y : Type 0} (p : Y → Bool) (f : X → List Y) (xs : List X) (i : ℕ) → length xs ≤ i → find p (flat_map f (take i xs)) ≡ None → find p (flat_map f xs) ≡ None
 find_flat_none p f xs i h none = ap (λ l. find p (flat_map f l)) (sym (take_all i xs h)) ∙ none
+
+-- an answer o of the search in one entry's images, as the answer of the whole search
+module _ {X Y : Type 0} (p : Y → Bool) (f : X → List Y) (xs : List X) (i : ℕ) (d : X) (near : i < length xs) (none : find p (flat_map f (take i xs)) ≡ None) where
+  pub find_flat_some : (o : Option Y) → is_some o ≡ true → o ≡ find p (f (get_or xs i d)) → o ≡ find p (flat_map f xs)
+  find_flat_some None h e = absurd (false≢true h)
+  find_flat_some (Some y) h e = sym (find_here p f xs i d near none y (sym e))
+
+  pub find_flat_more : (o : Option Y) → is_some o ≡ false → o ≡ find p (f (get_or xs i d)) → find p (flat_map f (take (i + 1) xs)) ≡ None
+  find_flat_more None h e = find_none_more p f xs i d near none (sym e)
+  find_flat_more (Some y) h e = absurd (false≢true (sym h))
+
+pub is_some-option_map : {X Y : Type 0} (f : X → Y) (o : Option X) → is_some (option_map f o) ≡ is_some o
+is_some-option_map f None = refl
+is_some-option_map f (Some x) = refl

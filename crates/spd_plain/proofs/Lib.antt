@@ -7,3 +7,4 @@ pub mod OneVariable
 pub mod Sums
 pub mod Finds
 pub mod Tests
+pub mod WrongSums
