@@ -8,3 +8,7 @@ pub mod Sums
 pub mod Finds
 pub mod Tests
 pub mod WrongSums
+pub mod RangeOrder
+pub mod GroupSweep
+pub mod LookUp
+pub mod Limits
