@@ -83,3 +83,106 @@ module _ (m : Process) (law : IsLawful m) (valid : IsValid m) where
 
   pub best_high_limited : (w : List ℕ → ℤ) → ((t : List ℕ) → IsLimited (w t)) → (s : List ℕ) → IsState (sizes m) s → IsLimited (best_high m w s)
   best_high_limited w limited s state = best_limited ceil_div ceil_keeps w limited s state
+
+-- ---- merging
+
+pub record IsLimitedRange (r : Range) : Type 0 where
+  pub low : IsLimited r.low
+  pub high : IsLimited r.high
+
+record IsLimitedGroup (g : Group) : Type 0 where
+  low : IsLimited g.low
+  high : IsLimited g.high
+
+if_all : {X : Type 0} (P : X → Type 0) (b : Bool) (xs ys : List X) → All P xs → All P ys → All P (if b then xs else ys)
+if_all P true xs ys h k = h
+if_all P false xs ys h k = k
+
+with_range_limited : (ranges : List Range) (r : Range) → All IsLimitedRange ranges → IsLimitedRange r → All IsLimitedRange (with_range ranges r)
+with_range_limited [] r h k = All-cons IsLimitedRange r [] k (All-nil IsLimitedRange)
+with_range_limited (q ∷ ranges) r h k =
+    if_all IsLimitedRange (is_same r q) (q ∷ ranges) (if is_before r q then r ∷ q ∷ ranges else q ∷ with_range ranges r) h
+    (if_all IsLimitedRange (is_before r q) (r ∷ q ∷ ranges) (q ∷ with_range ranges r) (All-cons IsLimitedRange r (q ∷ ranges) k h)
+    (All-cons IsLimitedRange q (with_range ranges r) (All-head IsLimitedRange q ranges h) (with_range_limited ranges r (All-tail IsLimitedRange q ranges h) k)))
+
+in_order_limited : (before ranges : List Range) → All IsLimitedRange before → All IsLimitedRange ranges → All IsLimitedRange (fold with_range before ranges)
+in_order_limited before [] h k = h
+in_order_limited before (r ∷ ranges) h k =
+    in_order_limited (with_range before r) ranges (with_range_limited before r h (All-head IsLimitedRange r ranges k)) (All-tail IsLimitedRange r ranges k)
+
+choice_all : (P : Group → Type 0) (b : Bool) (xs ys : List Group) → All P xs → All P ys → All P (elim b [ true ↦ xs | false ↦ ys ])
+choice_all P true xs ys h k = h
+choice_all P false xs ys h k = k
+
+groups_from_limited : (span : ℤ) (g : Group) (ranges : List Range) → IsLimitedGroup g → All IsLimitedRange ranges → All IsLimitedGroup (groups_from span g ranges)
+groups_from_limited span g [] h k = All-cons IsLimitedGroup g [] h (All-nil IsLimitedGroup)
+groups_from_limited span g (r ∷ ranges) h k =
+    let own = All-head IsLimitedRange r ranges k in
+    let rest = All-tail IsLimitedRange r ranges k in
+    choice_all IsLimitedGroup (int_le (joined g r).high (g.low +ℤ span)) (groups_from span (joined g r) ranges) (g ∷ groups_from span (group_of r) ranges)
+    (groups_from_limited span (joined g r) ranges (record { low = h.low; high = max_limited g.high r.high h.high own.high }) rest)
+    (All-cons IsLimitedGroup g (groups_from span (group_of r) ranges) h (groups_from_limited span (group_of r) ranges (record { low = own.low; high = own.high }) rest))
+
+groups_of_limited : (span : ℤ) (ranges : List Range) → All IsLimitedRange ranges → All IsLimitedGroup (groups_of span ranges)
+groups_of_limited span [] h = All-nil IsLimitedGroup
+groups_of_limited span (r ∷ ranges) h =
+    let own = All-head IsLimitedRange r ranges h in
+    groups_from_limited span (group_of r) ranges (record { low = own.low; high = own.high }) (All-tail IsLimitedRange r ranges h)
+
+middle_limited : (g : Group) → IsLimitedGroup g → IsLimited (middle_of g)
+middle_limited g h =
+    IsWithin-floor_div (g.low +ℤ g.high) (pos 2) (pos value_limit) (omega (arith, ints))
+    (IsWithin_mono (pos value_limit +ℤ pos value_limit) (pos value_limit *ℤ pos 2) _ (omega (arith, ints)) (IsWithin-+ℤ (pos value_limit) (pos value_limit) g.low g.high h.low h.high))
+
+if_limited : (b : Bool) (x y : ℤ) → IsLimited x → IsLimited y → IsLimited (if b then x else y)
+if_limited true x y h k = h
+if_limited false x y h k = k
+
+value_in_limited : (groups : List Group) (r : Range) → All IsLimitedGroup groups → IsLimited (value_in groups r)
+value_in_limited [] r h = limited_zero
+value_in_limited (g ∷ groups) r h =
+    if_limited (list_any (is_same r) g.members) (middle_of g) (value_in groups r) (middle_limited g (All-head IsLimitedGroup g groups h))
+    (value_in_limited groups r (All-tail IsLimitedGroup g groups h))
+
+-- merged values of limited ranges are limited
+pub merged_limited : (span : ℤ) (ranges : List Range) → All IsLimitedRange ranges → All IsLimited (merged span ranges)
+merged_limited span ranges h =
+    let groups = groups_of span (in_order ranges) in
+    let limited = groups_of_limited span (in_order ranges) (in_order_limited [] ranges (All-nil IsLimitedRange) h) in
+    All-map IsLimited (value_in groups) ranges (λ k d near. value_in_limited groups (get_or ranges k d) limited)
+
+-- ---- turns
+
+entry_limited : (values : List ℤ) → All IsLimited values → (k : ℕ) → IsLimited (get_or values k (pos 0))
+entry_limited values h k =
+    elim (cases_lt k (length values)) [
+      | inl near ↦ h k (pos 0) near
+      | inr far ↦ subst IsLimited (sym (get_or_past values k (pos 0) far)) limited_zero
+    ]
+
+module _ (m : Process) (law : IsLawful m) (valid : IsValid m) where
+  start_limited : All IsLimited (start_of m)
+  start_limited =
+      All-table_of IsLimited (sizes m) (λ s. greatest (map (λ a. reward_of m a s) m.actions))
+      (λ s state. greatest_limited _ (All-map IsLimited (λ a. reward_of m a s) m.actions
+      (All-weaker (Contains m.actions) (λ a. IsLimited (reward_of m a s))
+      (λ a acts. IsWithin_mono (pos reward_limit) (pos value_limit) _ (omega (arith, ints)) (IsWithin-from_abs reward_limit _ (valid.rewards a acts s state))) m.actions
+      (All-contains_itself m.actions))))
+
+  -- the ranges where a limited table follows
+  pub ranges_limited : (w : List ℕ → ℤ) → ((t : List ℕ) → IsLimited (w t)) → All IsLimitedRange (ranges_of m w)
+  ranges_limited w limited =
+      All-table_of IsLimitedRange (sizes m) (λ s. record { low = best_low m w s; high = best_high m w s })
+      (λ s state. record { low = best_low_limited m law valid w limited s state; high = best_high_limited m law valid w limited s state })
+
+  pub next_limited : (span : ℤ) (values : List ℤ) → ((k : ℕ) → IsLimited (get_or values k (pos 0))) → (k : ℕ) → IsLimited (get_or (next_of m span values) k (pos 0))
+  next_limited span values limited k =
+      entry_limited (next_of m span values)
+      (merged_limited span (ranges_of m (at (sizes m) values)) (ranges_limited (at (sizes m) values) (λ t. limited (rank (sizes m) t)))) k
+
+  pub turn_limited : (span : ℤ) (turns : ℕ) (k : ℕ) → IsLimited (get_or (turn m span turns) k (pos 0))
+  turn_limited span zero k = entry_limited (start_of m) start_limited k
+  turn_limited span (suc turns) k = next_limited span (turn m span turns) (turn_limited span turns) k
+
+  pub turn_all_limited : (span : ℤ) (turns : ℕ) → All IsLimited (turn m span turns)
+  turn_all_limited span turns = All-from_get_or IsLimited (turn m span turns) (pos 0) (λ k near. turn_limited span turns k)

@@ -2,7 +2,10 @@
 #![tactic(auto)]
 
 mod backup;
+mod law;
 mod outlook;
 mod ranges;
 mod states;
 mod validity;
+
+pub use law::law_bounded;
