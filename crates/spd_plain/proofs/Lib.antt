@@ -12,3 +12,4 @@ pub mod RangeOrder
 pub mod GroupSweep
 pub mod LookUp
 pub mod Limits
+pub mod Rows

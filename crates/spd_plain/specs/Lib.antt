@@ -1,3 +1,4 @@
 pub mod Bounds
 pub mod Outlooks
 pub mod Faults
+pub mod Sweeps

@@ -1,5 +1,5 @@
 -- What an action comes to at a state, as numbers: its reward and the probabilities of the next values.
-use Rattle.std.specs.Prelude.{ℕ, ◌+◌, ◌*◌, ◌^◌, ◌≡◌, List, length, map, ℤ, pos, ◌+ℤ◌, ◌*ℤ◌, ◌≤ℤ◌, slice_index, slice_index_or}
+use Rattle.std.specs.Prelude.{ℕ, ◌+◌, ◌*◌, ◌^◌, ◌≡◌, ◌<◌, ◌≤◌, All, List, length, map, ℤ, pos, ◌+ℤ◌, ◌*ℤ◌, ◌≤ℤ◌, slice_index, slice_index_or}
 use Rattle.spd_scaled.specs.Scaled.{IsWithin, floor_div, ceil_div}
 use Rattle.spd_model.specs.declared.Side.{Side}
 use Rattle.spd_model.specs.declared.Side.TheVariants.{Above, Below}
@@ -42,3 +42,22 @@ value_limit = (10 ^ 18 + 1) * 10 ^ 6
 
 pub record AreBounded (values : List ℤ) : Type 0 where
   pub each : (k : ℕ) → IsWithin (pos value_limit) (slice_index_or values k (pos 0))
+
+-- what all actions come to at a state, with a chance for each value of `values`
+pub record AreOutlooks (values : List ℤ) (outlooks : List Outlook) : Type 0 where
+  pub some : 0 < length outlooks
+  pub few : length outlooks ≤ 64
+  pub each : All IsOutlook outlooks
+  pub lengths : All (λ (outlook : Outlook). length values ≡ length outlook.chances) outlooks
+
+-- what an action comes to at s: its reward, and the probability of each next value of the variable
+abbrev pub outlook_of : Process → List ℕ → Action → Outlook
+outlook_of m s a = record { reward = reward_of m a s; chances = map (probability m a 0 s) (numbers_below (slice_index (sizes m) 0)) }
+
+-- what each action comes to at s
+abbrev pub outlooks_at : Process → List ℕ → List Outlook
+outlooks_at m s = map (outlook_of m s) m.actions
+
+-- what each action comes to at each state, one row for each state in order
+abbrev pub outlooks_of : Process → List (List Outlook)
+outlooks_of m = table_of (sizes m) (outlooks_at m)

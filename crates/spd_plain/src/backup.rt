@@ -3,7 +3,7 @@
 ghost use Rattle.std.specs.Prelude.{◌≡◌, ◌≤◌, ◌<◌, ◌*◌, length, map, pos, All};
 ghost use Rattle.spd_scaled.specs.Scaled.{IsWithin, floor_div as floor_of, ceil_div as ceil_of};
 ghost use Rattle.spd_model.specs.Numbers.{greatest, first_place};
-ghost use Rattle.spd_plain.specs.Outlooks.{AreBounded, IsDistribution, IsOutlook, value_limit, weighted, return_by, rounding_of};
+ghost use Rattle.spd_plain.specs.Outlooks.{AreBounded, AreOutlooks, IsDistribution, IsOutlook, value_limit, weighted, return_by, rounding_of};
 
 use spd_model::Side;
 use spd_scaled::{ceil_div, floor_div};
@@ -51,9 +51,7 @@ fn bounds_of(outlook: &Outlook, discount: u32, values: &[i128]) -> Bounds
 
 /// The greatest lower and the greatest upper bound over all actions.
 pub(crate) fn best_bounds(outlooks: &[Outlook], discount: u32, values: &[i128]) -> Bounds
-    requires some { 0 < length outlooks.now }
-    requires outlooks { All IsOutlook outlooks.now }
-    requires lengths { All (λ outlook. length values.now ≡ length outlook.chances) outlooks.now }
+    requires outlooks { AreOutlooks values.now outlooks.now }
     requires discount { discount ≤ 999999 }
     requires values { AreBounded values.now }
     ensures low { result.low ≡ greatest (map (return_by floor_of discount values.now) outlooks.now) }
@@ -90,10 +88,7 @@ pub(crate) fn best_action(
     values: &[i128],
     side: Side,
 ) -> u32
-    requires some { 0 < length outlooks.now }
-    requires few { length outlooks.now ≤ 64 }
-    requires outlooks { All IsOutlook outlooks.now }
-    requires lengths { All (λ outlook. length values.now ≡ length outlook.chances) outlooks.now }
+    requires outlooks { AreOutlooks values.now outlooks.now }
     requires discount { discount ≤ 999999 }
     requires values { AreBounded values.now }
     ensures { let bounds = map (return_by (rounding_of side) discount values.now) outlooks.now in result ≡ first_place (greatest bounds) bounds }
@@ -108,4 +103,16 @@ pub(crate) fn best_action(
         }
     }
     action
+}
+
+/// The greatest reward over all actions.
+pub(crate) fn best_reward(outlooks: &[Outlook]) -> i128
+    requires { 0 < length outlooks.now }
+    ensures { result ≡ greatest (map (λ outlook. outlook.reward) outlooks.now) }
+{
+    let mut best = outlooks[0].reward;
+    for outlook in &outlooks[1..] {
+        best = best.max(outlook.reward);
+    }
+    best
 }

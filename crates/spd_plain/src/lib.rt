@@ -6,6 +6,7 @@ mod law;
 mod outlook;
 mod ranges;
 mod states;
+mod sweep;
 mod validity;
 
 pub use law::law_bounded;
