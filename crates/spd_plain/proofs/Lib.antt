@@ -13,3 +13,4 @@ pub mod GroupSweep
 pub mod LookUp
 pub mod Limits
 pub mod Rows
+pub mod Gaps

@@ -1,5 +1,5 @@
 -- What the rows of outlooks give: the bounds, the gaps and the policy of the definitions.
-use Rattle.std.proofs.Common.{◌≡◌, inl, inr, ℕ, zero, suc, ◌+◌, ◌*◌, ◌^◌, ◌<◌, ◌≤◌, List, [], ◌∷◌, ◌++◌, length, map, take, get_or, slice_index, All, Contains, ℤ, pos, ◌*ℤ◌, ◌+ℤ◌, ◌-ℤ◌, ◌≤ℤ◌, refl, ap, sym, ◌∙◌, subst, arith}
+use Rattle.std.proofs.Common.{◌≡◌, inl, inr, ℕ, zero, suc, ◌+◌, ◌*◌, ◌^◌, ◌<◌, ◌≤◌, List, [], ◌∷◌, ◌++◌, length, map, take, take_all, get_or, slice_index, All, Contains, ℤ, pos, ◌*ℤ◌, ◌+ℤ◌, ◌-ℤ◌, ◌≤ℤ◌, refl, ap, sym, ◌∙◌, subst, arith}
 use Rattle.std.specs.Int.{int_max}
 use Rattle.std.proofs.lemmas.Bool.{cases_lt}
 use Rattle.std.proofs.lemmas.Int.{ints}
@@ -183,3 +183,22 @@ pub table_more : {A B X : Type 0} (g : A → B) (f : X → B) (xs : List X) (k :
     → map g entries ≡ map f (take k xs) → more ≡ entries ++ a ∷ [] → g a ≡ f (get_or xs k d) → map g more ≡ map f (take (k + 1) xs)
 table_more g f xs k d entries more a near so_far is here =
     ap (map g) is ∙ map_push g entries a ∙ (λ i. so_far i ++ here i ∷ []) ∙ sym (ap (map f) (take_more xs k d near) ∙ map_push f (take k xs) (get_or xs k d))
+
+pub plain_more : {B X : Type 0} (f : X → B) (xs : List X) (k : ℕ) (d : X) (entries more : List B) (a : B) → k < length xs
+    → entries ≡ map f (take k xs) → more ≡ entries ++ a ∷ [] → a ≡ f (get_or xs k d) → more ≡ map f (take (k + 1) xs)
+plain_more f xs k d entries more a near so_far is here =
+    is ∙ (λ i. so_far i ++ here i ∷ []) ∙ sym (ap (map f) (take_more xs k d near) ∙ map_push f (take k xs) (get_or xs k d))
+
+pub table_done : {B X : Type 0} (f : X → B) (xs : List X) (k : ℕ) (entries : List B) → length xs ≤ k → entries ≡ map f (take k xs) → entries ≡ map f xs
+table_done f xs k entries all so_far = so_far ∙ ap (map f) (take_all k xs all)
+
+-- the rewards of a row
+module _ (m : Process) (law : IsLawful m) (rows : List (List Outlook)) (are : rows ≡ outlooks_of m) (k : ℕ) (row : List Outlook) (near : k < length rows) (is : row ≡ get_or rows k row) where
+  row_here : row ≡ outlooks_at m (get_or (states (sizes m)) k [])
+  row_here = row_is m rows k row are (omega (arith, length-rows m rows are)) is
+
+  pub row_some : 0 < length row
+  row_some = omega (arith, ap length row_here, length-map m.actions (outlook_of m (get_or (states (sizes m)) k [])), law.some_actions)
+
+  pub rewards_at : greatest (map (λ (o : Outlook). o.reward) row) ≡ greatest (map (λ a. reward_of m a (get_or (states (sizes m)) k [])) m.actions)
+  rewards_at = ap greatest (ap (map (λ (o : Outlook). o.reward)) row_here ∙ map-map (λ (o : Outlook). o.reward) (outlook_of m (get_or (states (sizes m)) k [])) m.actions)
