@@ -1,11 +1,12 @@
 -- The first entry that passes a test, looked for in order.
-use Rattle.std.proofs.Common.{◌≡◌, ℕ, suc, ◌+◌, ◌<◌, ◌≤◌, Bool, true, false, cond, List, [], ◌∷◌, ◌++◌, map, flat_map, take, take_all, drop, get_or, length, find, Option, Some, None, refl, ap, sym, ◌∙◌, subst}
+use Rattle.std.proofs.Common.{◌≡◌, ℕ, zero, suc, All, arith, ◌+◌, ◌<◌, ◌≤◌, Bool, true, false, cond, List, [], ◌∷◌, ◌++◌, map, flat_map, take, take_all, drop, get_or, length, find, Option, Some, None, refl, ap, sym, ◌∙◌, subst}
 use Rattle.std.specs.Option.{option_or, option_map, is_some}
 use Rattle.std.proofs.lemmas.Bool.{false≢true}
 use Rattle.std.proofs.Math.Seq.{split_at}
 use Rattle.std.proofs.lemmas.List.{take_more, map-append, append-nil}
 use Rattle.std.proofs.lemmas.List.Concat.{flat_map-append, flat_map_single}
 use Rattle.std.proofs.lemmas.List.Folds.{find-append}
+use Rattle.std.proofs.lemmas.List.Elements.{All-head, All-tail}
 
 module _ {X Y : Type 0} (p : Y → Bool) (f : X → List Y) (xs : List X) (i : ℕ) (d : X) (near : i < length xs) (none : find p (flat_map f (take i xs)) ≡ None) where
   front : flat_map f (take (i + 1) xs) ≡ flat_map f (take i xs) ++ (f (get_or xs i d) ++ [])
@@ -63,3 +64,12 @@ module _ {X Y : Type 0} (p : Y → Bool) (f : X → List Y) (xs : List X) (i : �
 pub is_some-option_map : {X Y : Type 0} (f : X → Y) (o : Option X) → is_some (option_map f o) ≡ is_some o
 is_some-option_map f None = refl
 is_some-option_map f (Some x) = refl
+
+-- the first entry that passes
+pub find_first : {X : Type 0} (p : X → Bool) (xs : List X) (k : ℕ) (d : X) → k < length xs → All (λ x. p x ≡ false) (take k xs) → p (get_or xs k d) ≡ true
+    → find p xs ≡ Some (get_or xs k d)
+find_first p [] k d near none here = absurd (omega arith)
+find_first p (x ∷ xs) zero d near none here = ap (λ b. cond b (Some x) (find p xs)) here
+find_first p (x ∷ xs) (suc k) d near none here =
+    ap (λ b. cond b (Some x) (find p xs)) (All-head (λ x. p x ≡ false) x (take k xs) none)
+    ∙ find_first p xs k d (omega arith) (All-tail (λ x. p x ≡ false) x (take k xs) none) here

@@ -1,5 +1,5 @@
 -- The residual is one of the gaps of some state.
-use Rattle.std.proofs.Common.{◌≡◌, ◌⊎◌, inl, inr, ℕ, zero, suc, ◌+◌, ◌*◌, ◌<◌, ◌≤◌, Bool, true, false, ◌||◌, List, [], ◌∷◌, length, map, fold, take, get_or, slice_index, find, Some, All, Contains, ℤ, pos, ◌+ℤ◌, ◌-ℤ◌, ◌*ℤ◌, ◌≤ℤ◌, ◌<ℤ◌, cond, refl, ap, sym, ◌∙◌, subst, arith}
+use Rattle.std.proofs.Common.{◌≡◌, ◌⊎◌, inl, inr, ℕ, zero, suc, ◌+◌, ◌*◌, ◌<◌, ◌≤◌, Bool, true, false, ◌||◌, List, [], ◌∷◌, length, map, fold, take, get_or, slice_index, find, Some, All, Contains, ℤ, pos, ◌+ℤ◌, ◌-ℤ◌, ◌*ℤ◌, ◌≤ℤ◌, ◌<ℤ◌, int_lt, cond, refl, ap, sym, ◌∙◌, subst, arith}
 use Rattle.std.specs.Int.{int_max}
 use Rattle.std.specs.Ordering.{int_eq}
 use Rattle.std.proofs.lemmas.Bool.{false≢true, cases_lt}
@@ -48,14 +48,21 @@ greatest_ordered : {X : Type 0} (f g : X → ℤ) (xs : List X) → All (λ x. f
 greatest_ordered f g [] h = omega (arith, ints)
 greatest_ordered f g (x ∷ xs) h = fold_ordered f g xs (f x) (g x) (All-head (λ x. f x ≤ℤ g x) x xs h) (All-tail (λ x. f x ≤ℤ g x) x xs h)
 
-max_is_one : (x y : ℤ) → (int_max x y ≡ x) ⊎ (int_max x y ≡ y)
-max_is_one x y = by_test (lt_test x y)
-  where
-    lt_test : ℤ → ℤ → Bool
-    lt_test x y = int_eq x (int_max x y)
+max_cases : (b : Bool) (x y : ℤ) → (cond b x y ≡ x) ⊎ (cond b x y ≡ y)
+max_cases true x y = inl refl
+max_cases false x y = inr refl
 
-    by_test : Bool → (int_max x y ≡ x) ⊎ (int_max x y ≡ y)
-    by_test b = ?
+or_right : (a b : Bool) → b ≡ true → (a || b) ≡ true
+or_right true b h = refl
+or_right false b h = h
+
+-- the greater of two gaps is one of them
+gap_found : (r x y : ℤ) → int_max x y ≡ r → (int_eq r x || int_eq r y) ≡ true
+gap_found r x y h =
+    elim (max_cases (int_lt y x) x y) [
+      | inl e ↦ ap (λ b. b || int_eq r y) (int_eq-holds r x (sym h ∙ e))
+      | inr e ↦ or_right (int_eq r x) (int_eq r y) (int_eq-holds r y (sym h ∙ e))
+    ]
 
 module _ (m : Process) (valid : IsValid m) (w : List ℕ → ℤ) where
   return_ordered : (s : List ℕ) → IsState (sizes m) s → (a : Action) → Contains m.actions a → low_of m w a s ≤ℤ high_of m w a s
@@ -68,3 +75,35 @@ module _ (m : Process) (valid : IsValid m) (w : List ℕ → ℤ) where
   best_ordered s state =
       greatest_ordered (λ a. low_of m w a s) (λ a. high_of m w a s) m.actions
       (All-weaker (Contains m.actions) (λ a. low_of m w a s ≤ℤ high_of m w a s) (return_ordered s state) m.actions (All-contains_itself m.actions))
+
+  -- whether one of the two gaps at s equals r
+  abbrev pub has_gap : ℤ → List ℕ → Bool
+  has_gap r s = int_eq r (gap_above m w s) || int_eq r (gap_below m w s)
+
+  module _ (r : ℤ) (is : r ≡ residual_of m w) (some : 0 < length (states (sizes m))) where
+    first_state : List ℕ
+    first_state = get_or (states (sizes m)) 0 []
+
+    -- where the residual is 0, no gap is left at the first state
+    none_left : r ≡ pos 0 → gap_at m w (get_or (states (sizes m)) 0 []) ≡ r
+    none_left zero_is =
+        let s = get_or (states (sizes m)) 0 [] in
+        let ordered = best_ordered s (IsState-get_or (sizes m) 0 (omega (arith, length-states (sizes m)))) in
+        let bound = subst (λ x. x ≤ℤ r) (get_or-map (gap_at m w) (states (sizes m)) 0 [] (pos 0) some)
+        ((fold-int_max_bounds (pos 0) (map (gap_at m w) (states (sizes m))) r is).1 0 (pos 0) (omega (arith, length-map (states (sizes m)) (gap_at m w)))) in
+        omega (arith, ints, ordered, bound, int_max_is (gap_above m w s) (gap_below m w s))
+
+    pub somewhere : (k : ℕ) × (k < length (states (sizes m))) × (gap_at m w (get_or (states (sizes m)) k []) ≡ r)
+    somewhere =
+        elim (fold-int_max_reached (pos 0) (map (gap_at m w) (states (sizes m))) r is) [
+          | inl zero_is ↦ (0, some, none_left zero_is)
+          | inr at ↦
+              let near : at.0 < length (states (sizes m)) = omega (arith, at.1, length-map (states (sizes m)) (gap_at m w)) in
+              (at.0, near, sym (get_or-map (gap_at m w) (states (sizes m)) at.0 [] r near) ∙ at.2)
+        ]
+
+    pub not_nowhere : All (λ s. has_gap r s ≡ false) (states (sizes m)) → ⊥
+    not_nowhere none =
+        let at = somewhere in
+        let s = get_or (states (sizes m)) at.0 [] in
+        false≢true (sym (none at.0 [] at.1) ∙ gap_found r (gap_above m w s) (gap_below m w s) at.2)
