@@ -64,6 +64,10 @@ gap_found r x y h =
       | inr e ↦ or_right (int_eq r x) (int_eq r y) (int_eq-holds r y (sym h ∙ e))
     ]
 
+-- whether one of the two gaps at s equals r
+abbrev pub has_gap : Process → (List ℕ → ℤ) → ℤ → List ℕ → Bool
+has_gap m w r s = int_eq r (gap_above m w s) || int_eq r (gap_below m w s)
+
 module _ (m : Process) (valid : IsValid m) (w : List ℕ → ℤ) where
   return_ordered : (s : List ℕ) → IsState (sizes m) s → (a : Action) → Contains m.actions a → low_of m w a s ≤ℤ high_of m w a s
   return_ordered s state a acts =
@@ -75,10 +79,6 @@ module _ (m : Process) (valid : IsValid m) (w : List ℕ → ℤ) where
   best_ordered s state =
       greatest_ordered (λ a. low_of m w a s) (λ a. high_of m w a s) m.actions
       (All-weaker (Contains m.actions) (λ a. low_of m w a s ≤ℤ high_of m w a s) (return_ordered s state) m.actions (All-contains_itself m.actions))
-
-  -- whether one of the two gaps at s equals r
-  abbrev pub has_gap : ℤ → List ℕ → Bool
-  has_gap r s = int_eq r (gap_above m w s) || int_eq r (gap_below m w s)
 
   module _ (r : ℤ) (is : r ≡ residual_of m w) (some : 0 < length (states (sizes m))) where
     first_state : List ℕ
@@ -102,7 +102,7 @@ module _ (m : Process) (valid : IsValid m) (w : List ℕ → ℤ) where
               (at.0, near, sym (get_or-map (gap_at m w) (states (sizes m)) at.0 [] r near) ∙ at.2)
         ]
 
-    pub not_nowhere : All (λ s. has_gap r s ≡ false) (states (sizes m)) → ⊥
+    pub not_nowhere : All (λ s. has_gap m w r s ≡ false) (states (sizes m)) → ⊥
     not_nowhere none =
         let at = somewhere in
         let s = get_or (states (sizes m)) at.0 [] in

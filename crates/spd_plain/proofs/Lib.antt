@@ -14,3 +14,4 @@ pub mod LookUp
 pub mod Limits
 pub mod Rows
 pub mod Gaps
+pub mod SweepLaws

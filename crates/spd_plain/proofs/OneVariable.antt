@@ -17,6 +17,10 @@ few-one : (vars : List Var) → length vars ≡ 1 → All HasValues vars → sli
 few-one [] h law = absurd (omega arith)
 few-one (x ∷ vars) h law = (law 0 x (omega arith)).few
 
+some-one : (vars : List Var) → length vars ≡ 1 → All HasValues vars → 0 < slice_index (map (λ (x : Var). length x.values) vars) 0
+some-one [] h law = absurd (omega arith)
+some-one (x ∷ vars) h law = (law 0 x (omega arith)).some
+
 module _ (m : Process) (one : length m.vars ≡ 1) where
   pub sizes_is : sizes m ≡ slice_index (sizes m) 0 ∷ []
   sizes_is = sizes-one m.vars one
@@ -32,6 +36,9 @@ module _ (m : Process) (one : length m.vars ≡ 1) where
 
   pub few_states : IsLawful m → state_count (sizes m) ≤ 64
   few_states law = omega (arith, state_count_is, few-one m.vars one law.values)
+
+  pub some_states : IsLawful m → 0 < state_count (sizes m)
+  some_states law = omega (arith, state_count_is, some-one m.vars one law.values)
 
   pub state_is : (k : ℕ) → k < state_count (sizes m) → get_or (states (sizes m)) k [] ≡ k ∷ []
   state_is k h = get_or-states_at (sizes m) k h ∙ ap (λ (l : List ℕ). state_at l k) sizes_is ∙ ap (λ (j : ℕ). j ∷ []) (omega arith)
