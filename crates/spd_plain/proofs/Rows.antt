@@ -9,6 +9,8 @@ use Rattle.std.proofs.lemmas.List.Elements.{All-map, All-weaker, All-contains_it
 use Rattle.spd_scaled.specs.Scaled.{IsWithin, floor_div, ceil_div}
 use Rattle.spd_scaled.proofs.Magnitude.{IsWithin-from_abs, IsWithin_mono}
 use Rattle.spd_model.specs.declared.process.Action.{Action}
+use Rattle.spd_model.specs.declared.Side.{Side}
+use Rattle.spd_model.specs.declared.Side.TheVariants.{Above, Below}
 use Rattle.spd_model.specs.Process.{Process}
 use Rattle.spd_model.specs.Lawful.{IsLawful}
 use Rattle.spd_model.specs.Numbers.{numbers_below, sum_below, greatest, first_place}
@@ -22,9 +24,14 @@ use Rattle.spd_plain.specs.Bounds.{range_of, IsSmall}
 use Rattle.spd_plain.specs.Sweeps.{CanSweep}
 use Rattle.spd_plain.proofs.Limits.{IsLimited, best_low_limited, best_high_limited}
 use Rattle.spd_plain.specs.declared.outlook.Outlook.{Outlook}
-use Rattle.spd_plain.specs.Outlooks.{value_limit, weighted, return_by, outlook_of, outlooks_at, outlooks_of, IsOutlook, AreOutlooks}
+use Rattle.spd_plain.specs.Outlooks.{value_limit, weighted, return_by, rounding_of, outlook_of, outlooks_at, outlooks_of, IsOutlook, AreOutlooks}
 use Rattle.spd_plain.proofs.StateOrder.{length-numbers_below, get_or-numbers_below, get_or-table_of, length-table_of, length-states, IsState-get_or, at-get_or}
 use Rattle.spd_plain.proofs.OneVariable.{at_is, state_count_is}
+
+-- the action whose bound is meant on a side
+abbrev pub action_of : Process → (List ℕ → ℤ) → Side → List ℕ → ℕ
+action_of m w Above s = highest_of m w s
+action_of m w Below s = policy_of m w s
 
 -- the range of a state, and the greater of its gaps
 abbrev pub range_at : Process → (List ℕ → ℤ) → List ℕ → Range
@@ -158,6 +165,11 @@ module _ (m : Process) (law : IsLawful m) (rows : List (List Outlook)) (values :
   pub highest_at : first_place (greatest (map (return_by ceil_div m.discount values) row)) (map (return_by ceil_div m.discount values) row)
       ≡ highest_of m (at (sizes m) values) state_of
   highest_at = ap (λ xs. first_place (greatest xs) xs) (returns_at ceil_div)
+
+  pub action_at : (side : Side) → first_place (greatest (map (return_by (rounding_of side) m.discount values) row)) (map (return_by (rounding_of side) m.discount values) row)
+      ≡ action_of m (at (sizes m) values) side state_of
+  action_at Above = highest_at
+  action_at Below = policy_at
 
   pub value_at : get_or values k (pos 0) ≡ at (sizes m) values state_of
   value_at = sym (at-get_or (sizes m) values k state_near)

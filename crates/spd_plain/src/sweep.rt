@@ -151,10 +151,11 @@ pub(crate) fn residual_place(
     requires sweep { IsSweep model.now values.now sweep.now }
     ensures { place_record result ≡ place_of model.now (at (sizes model.now) values.now) sweep.now.residual }
 {
+    let discount = model.discount;
     let place = first_place_of(model, values, sweep);
     let ranges = sweep.ranges.as_slice();
     let side = side_of(&ranges[place], values[place], sweep.residual);
-    let action = best_action(rows[place].as_slice(), model.discount, values, side);
+    let action = best_action(rows[place].as_slice(), discount, values, side);
     ResidualPlace {
         state: state_at(model, place),
         side,
