@@ -15,3 +15,4 @@ pub mod Limits
 pub mod Rows
 pub mod Gaps
 pub mod SweepLaws
+pub mod Valid

@@ -2,3 +2,4 @@ pub mod Bounds
 pub mod Outlooks
 pub mod Faults
 pub mod Sweeps
+pub mod Plain

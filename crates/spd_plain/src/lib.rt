@@ -5,8 +5,10 @@ mod backup;
 mod law;
 mod outlook;
 mod ranges;
+mod solve;
 mod states;
 mod sweep;
 mod validity;
 
 pub use law::law_bounded;
+pub use solve::{Plain, PlainFault, plain_solve};
