@@ -15,4 +15,5 @@ pub mod Limits
 pub mod Rows
 pub mod Gaps
 pub mod SweepLaws
+pub mod Runs
 pub mod Valid

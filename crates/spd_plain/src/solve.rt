@@ -6,7 +6,7 @@ ghost use Rattle.spd_model.specs.Chances.{IsValid};
 ghost use Rattle.spd_model.specs.States.{sizes, at};
 ghost use Rattle.spd_model.specs.Turns.{stops_at, error_of as error_of_residual, stop_of};
 ghost use Rattle.spd_plain.specs.Outlooks.{outlooks_of, value_limit};
-ghost use Rattle.spd_plain.specs.Sweeps.{IsSweep};
+ghost use Rattle.spd_plain.specs.Sweeps.{CanSweep, IsSweep};
 ghost use Rattle.spd_plain.specs.Plain.{plain_of, stop_record, Cause};
 
 use spd_model::{Model, Side, State, Why};
@@ -107,8 +107,10 @@ fn run_turns(
     requires span_low { pos 0 ≤ℤ span }
     requires span_high { span ≤ℤ pos (10 ^ 30) }
     ensures stop { IfOk result (λ stop. stop_record stop ≡ stop_of model.now turns span) }
+    ensures values { IfOk result (λ stop. CanSweep model.now rows.now stop.value.items) }
     ensures sweep { IfOk result (λ stop. IsSweep model.now stop.value.items stop.sweep) }
 {
+    let _vars = &model.vars;
     let mut value = start(alloc, model, rows)?;
     for turn in 0..turns {
         let sweep = sweep_states(alloc, model, rows, &value)?;
@@ -160,6 +162,7 @@ fn solve_valid(
     requires span_high { span ≤ℤ pos (10 ^ 30) }
     ensures { IfOk result (λ p. p ≡ plain_of model.now turns span) }
 {
+    let _vars = &model.vars;
     let rows = tabulate(alloc, model)?;
     let stop = run_turns(alloc, model, &rows, turns, span)?;
     let policy = policy(alloc, model, &rows, &stop.value)?;
