@@ -27,13 +27,14 @@ some_none : {X : Type 0} {x : X} → Some x ≡ None → ⊥
 some_none h = cc
 
 -- where a search finds none, no entry passes
+find_none_by : {X : Type 0} (p : X → Bool) (x : X) (xs : List X) (b : Bool) → p x ≡ b → cond b (Some x) (find p xs) ≡ None
+    → (find p xs ≡ None → All (λ x. p x ≡ false) xs) → All (λ x. p x ≡ false) (x ∷ xs)
+find_none_by p x xs true e h rest = absurd (some_none h)
+find_none_by p x xs false e h rest = All-cons (λ x. p x ≡ false) x xs e (rest h)
+
 find_none : {X : Type 0} (p : X → Bool) (xs : List X) → find p xs ≡ None → All (λ x. p x ≡ false) xs
 find_none p [] h = All-nil (λ x. p x ≡ false)
-find_none p (x ∷ xs) h = by_test (p x) refl h
-  where
-    by_test : (b : Bool) → p x ≡ b → cond b (Some x) (find p xs) ≡ None → All (λ x. p x ≡ false) (x ∷ xs)
-    by_test true e h = absurd (some_none h)
-    by_test false e h = All-cons (λ x. p x ≡ false) x xs e (find_none p xs h)
+find_none p (x ∷ xs) h = find_none_by p x xs (p x) refl h (λ k. find_none p xs k)
 
 All-flat_map : {X Y : Type 0} (P : Y → Type 0) (f : X → List Y) (xs : List X) → All P (flat_map f xs) → (k : ℕ) (d : X) → k < length xs → All P (f (get_or xs k d))
 All-flat_map P f [] h k d near = absurd (omega arith)
@@ -51,11 +52,11 @@ small_enough : (x : ℕ) → nat_le x reward_limit ≡ true → x ≤ reward_lim
 small_enough x h = grind (arith, nat_tests)
 
 -- a table's value is at least 0, as far as there is a table
-chance_nonnegative : (m : Process) (tables : List Tree) (i : ℕ) (s t : List ℕ) → ((tree : Tree) → i < length tables → IsTable m i (get_or tables i tree))
+chance_nonnegative : (m : Process) (tables : List Tree) (j i : ℕ) (s t : List ℕ) → ((tree : Tree) → IsTable m j (get_or tables i tree))
     → pos 0 ≤ℤ elim (slice_get tables i) [ None ↦ pos 0 | Some tree ↦ value_of m tree s t ]
-chance_nonnegative m [] i s t h = omega (arith, ints)
-chance_nonnegative m (tree ∷ tables) zero s t h = table_nonnegative m 0 tree s t (h tree (omega arith)).table
-chance_nonnegative m (tree ∷ tables) (suc i) s t h = ?
+chance_nonnegative m [] j i s t h = omega (arith, ints)
+chance_nonnegative m (tree ∷ tables) j zero s t h = table_nonnegative m j tree s t (h tree).table
+chance_nonnegative m (tree ∷ tables) j (suc i) s t h = chance_nonnegative m tables j i s t h
 
 module _ (m : Process) (law : IsLawful m) (no_sum : first_wrong_sum m ≡ None) (no_reward : first_wide_reward m ≡ None) where
   sums_right : All (λ (x : Sum). not (int_eq x.sum one) ≡ false) (sums_of m)
@@ -95,7 +96,7 @@ module _ (m : Process) (law : IsLawful m) (no_sum : first_wrong_sum m ≡ None) 
   is_valid = record {
     chances = λ a acts i near s state v below.
         let action = All-contains (IsAction m) m.actions a law.actions acts in
-        chance_nonnegative m a.tables i s (slice_set s i v) (λ tree p. action.tables i tree near);
+        chance_nonnegative m a.tables i i s (slice_set s i v) (λ tree. action.tables i tree near);
     sums = λ a acts i near s state. sum_right a acts s state i near;
     rewards = λ a acts s state. reward_right a acts s state;
   }
