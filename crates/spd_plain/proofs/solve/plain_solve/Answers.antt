@@ -1,0 +1,20 @@
+use Rattle.std.proofs.Common.{◌∙◌, ap, sym, subst}
+use Rattle.std.proofs.lemmas.Int.{to_z-of_z}
+use mir.Syntax.{w128}
+use Rattle.spd_plain.specs.Plain.{plain_of}
+use Rattle.spd_model.specs.Lawful.{IsLawful}
+use Rattle.spd_plain.proofs.Valid.{is_valid}
+use Rattle.spd_plain.proofs.solve.plain_solve.Goals as goal
+
+pub solve_valid-requires-clause-valid : goal.solve_valid-requires-clause-valid
+solve_valid-requires-clause-valid c =
+    let law = subst IsLawful c.model.view_is c.model.invariant in
+    is_valid c.args.model.now law (sym c.in_default.ensures) (sym c.in_default-first_wide_reward.ensures)
+
+pub returns-clause-valid : goal.returns-clause-valid
+returns-clause-valid c =
+    let law = subst IsLawful c.model.view_is c.model.invariant in
+    is_valid c.args.model.now law (sym c.in_default.ensures) (sym c.in_default-first_wide_reward.ensures)
+
+pub returns-clause-solved : goal.returns-clause-solved
+returns-clause-solved c = c.in_ok-solve_valid.ensures ∙ ap (plain_of c.args.model.now c.args.turns) (to_z-of_z w128 c.args.span c.ranges.span)
