@@ -11,12 +11,10 @@ pub mod Sums
 pub mod Finds
 pub mod Tests
 pub mod WrongSums
-pub mod RangeOrder
-pub mod GroupSweep
-pub mod LookUp
 pub mod Limits
 pub mod Rows
 pub mod Gaps
 pub mod SweepLaws
 pub mod Runs
 pub mod Valid
+pub mod Shapes

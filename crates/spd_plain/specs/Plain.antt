@@ -1,7 +1,7 @@
 -- What value iteration on plain tables ends with.
-use Rattle.std.specs.Prelude.{ℕ, ◌≡◌, ℤ, Option, Some, None, MatchResult, Result}
+use Rattle.std.specs.Prelude.{ℕ, ◌≡◌, length, ℤ, Option, Some, None, MatchResult, Result}
 use Rattle.spd_model.specs.Process.{Process}
-use Rattle.spd_model.specs.States.{sizes, table_of, at}
+use Rattle.spd_model.specs.States.{sizes, table_of, at, state_count, IsState}
 use Rattle.spd_model.specs.Chances.{first_wrong_sum, first_wide_reward}
 use Rattle.spd_model.specs.Backup.{policy_of}
 use Rattle.spd_model.specs.Turns.{Stop, residual_of, place_of, error_of, stop_of}
@@ -44,3 +44,15 @@ FaultCause m Memory = Unit {0}
 -- the cause of an answer: a value comes only where no sum is wrong and no reward passes its limit
 abbrev pub Cause : Process → Result Plain PlainFault → Type 0
 Cause m result = MatchResult result (λ p. (first_wrong_sum m ≡ None) × (first_wide_reward m ≡ None)) (FaultCause m)
+
+-- value and policy have an entry for each state, and the residual's place is a state
+pub record IsShaped (m : Process) (p : Plain) : Type 0 where
+  pub value : length p.value ≡ state_count (sizes m)
+  pub policy : length p.policy ≡ state_count (sizes m)
+  pub place : IsState (sizes m) p.place
+
+-- the state of a fault is a state
+abbrev pub IsPlaced : Process → PlainFault → Type 0
+IsPlaced m (Sum action var state sum) = IsState (sizes m) state
+IsPlaced m (Range action state value) = IsState (sizes m) state
+IsPlaced m Memory = Unit {0}

@@ -1,13 +1,13 @@
 //! Value iteration on plain tables.
 
-ghost use Rattle.std.specs.Prelude.{◌≡◌, ◌≤◌, ◌^◌, length, pos, ◌≤ℤ◌, IfOk, OnOk};
+ghost use Rattle.std.specs.Prelude.{◌≡◌, ◌≤◌, ◌^◌, length, pos, ◌≤ℤ◌, IfOk, IfErr, OnOk};
 ghost use Rattle.spd_scaled.specs.Scaled.{IsWithin};
 ghost use Rattle.spd_model.specs.Chances.{IsValid};
 ghost use Rattle.spd_model.specs.States.{sizes, at};
 ghost use Rattle.spd_model.specs.Turns.{stops_at, error_of as error_of_residual, stop_of};
 ghost use Rattle.spd_plain.specs.Outlooks.{outlooks_of, value_limit};
 ghost use Rattle.spd_plain.specs.Sweeps.{CanSweep, IsSweep};
-ghost use Rattle.spd_plain.specs.Plain.{plain_of, stop_record, Cause};
+ghost use Rattle.spd_plain.specs.Plain.{plain_of, stop_record, Cause, IsShaped, IsPlaced};
 
 use spd_model::{Model, Side, State, Why};
 use spd_scaled::ceil_div;
@@ -198,6 +198,8 @@ pub fn plain_solve(
     ensures valid { OnOk result (IsValid model.now) }
     ensures solved { IfOk result (λ p. p ≡ plain_of model.now turns span) }
     ensures cause { Cause model.now result }
+    ensures shaped { IfOk result (IsShaped model.now) }
+    ensures placed { IfErr result (IsPlaced model.now) }
 {
     let _vars = &model.vars;
     if let Some(wrong) = first_wrong_sum(model) {

@@ -1,3 +1,5 @@
+mod Solving
+mod StateTexts
 mod Writing
 pub mod SmallTokens
 pub mod SmallNumbers

@@ -10,3 +10,4 @@ pub mod SmallContents
 pub mod Run
 pub mod TextParts
 pub mod TextNodes
+pub mod Solved

@@ -68,3 +68,31 @@ Means bytes before now (Usage word) = now ≡ before
 Means bytes before now (OpenFault name) = now ≡ before
 Means bytes before now (ReadFault name) = now ≡ before
 Means bytes before now Memory = now ≡ before
+
+-- whether the result was written, at least its front
+abbrev pub Writes : Status → Type 0
+Writes Done = Unit {0}
+Writes (TurnLimit r) = Unit {0}
+Writes WriteFault = Unit {0}
+Writes (Usage word) = ⊥
+Writes (OpenFault name) = ⊥
+Writes (ReadFault name) = ⊥
+Writes (TooLong name) = ⊥
+Writes Refused = ⊥
+Writes (WrongSum action var state sum) = ⊥
+Writes (WideReward action state value) = ⊥
+Writes Memory = ⊥
+
+-- whether the file was opened, read and closed without a fault
+abbrev pub ReadsCalmly : Status → Type 0
+ReadsCalmly Done = Unit {0}
+ReadsCalmly (TurnLimit r) = Unit {0}
+ReadsCalmly WriteFault = Unit {0}
+ReadsCalmly Refused = Unit {0}
+ReadsCalmly (WrongSum action var state sum) = Unit {0}
+ReadsCalmly (WideReward action state value) = Unit {0}
+ReadsCalmly (TooLong name) = Unit {0}
+ReadsCalmly (Usage word) = Unit {0}
+ReadsCalmly (OpenFault name) = ⊥
+ReadsCalmly (ReadFault name) = ⊥
+ReadsCalmly Memory = ⊥

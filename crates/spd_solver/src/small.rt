@@ -4,6 +4,7 @@ mod file;
 mod lexer;
 mod trees;
 mod unread;
+pub use file::law_one_model;
 pub(crate) use file::read_small;
 pub(crate) use unread::Unread;
 mod words;

@@ -14,13 +14,15 @@ mod tests;
 
 use itoa::Buffer;
 use line::{put_line, put_units_line, put_word};
-use names::{action_name, side_word, value_name, why_word};
+pub(crate) use names::{action_name, var_name};
+use names::{side_word, value_name, why_word};
 use nodes::{put_policy, put_value};
 use spd_model::{Model, Side, State, Var, Why};
 use std::alloc::{AllocError, Global};
 
 /// What a run of value iteration found, as its text tells it. Values count units of 10^-9.
 #[derive(Clone, Copy)]
+#[derive(Drop)]
 pub(crate) struct Outcome<'a> {
     pub why: Why,
     pub turn: u32,
@@ -95,7 +97,7 @@ fn put_place(text: &mut Vec<u8>, model: &Model, outcome: &Outcome<'_>) -> Result
 }
 
 /// Appends `variable=value` for each variable in order, each behind a space.
-fn put_state(text: &mut Vec<u8>, model: &Model, state: &State) -> Result<(), AllocError>
+pub(crate) fn put_state(text: &mut Vec<u8>, model: &Model, state: &State) -> Result<(), AllocError>
     requires { length state.now ≡ length model.now.vars }
     ensures { OnOk result (text.new.items ≡ text.old.items ++ spaced (state_words model.now state.now)) }
 {

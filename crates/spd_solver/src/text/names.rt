@@ -26,7 +26,7 @@ pub(super) fn side_word(side: Side) -> &'static [u8]
 }
 
 /// The name of the action of this number, empty where there is none.
-pub(super) fn action_name(model: &Model, action: u32) -> &[u8]
+pub(crate) fn action_name(model: &Model, action: u32) -> &[u8]
     ensures { result.now ≡ action_text model.now action }
 {
     match model.actions.get(action as usize) {
@@ -36,7 +36,7 @@ pub(super) fn action_name(model: &Model, action: u32) -> &[u8]
 }
 
 /// The name of the variable of this number, empty where there is none.
-pub(super) fn var_name(model: &Model, var: usize) -> &[u8]
+pub(crate) fn var_name(model: &Model, var: usize) -> &[u8]
     ensures { result.now ≡ var_text model.now var }
 {
     match model.vars.get(var) {

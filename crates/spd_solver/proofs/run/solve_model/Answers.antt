@@ -1,0 +1,10 @@
+use Rattle.std.proofs.Common.{subst, sym}
+use Rattle.spd_solver.specs.declared.status.Status.{Status}
+use Rattle.spd_solver.specs.Solved.{IsSolution}
+use Rattle.spd_solver.proofs.Solving.{solved-plain}
+use Rattle.spd_solver.proofs.run.solve_model.Goals as goal
+
+pub returns-in-Ok-solved_text-clause-solved : goal.returns-in-Ok-solved_text-clause-solved
+returns-in-Ok-solved_text-clause-solved c =
+    subst (λ (status : Status). IsSolution c.args.model.now c.in-Ok-solved_text.text.items status) (sym c.solved_status.ensures)
+    (solved-plain c.args.model.now c.in-Ok.plain c.in-Ok-solved_text.text.items c.requires c.in-Ok.ensures.valid c.in-Ok.ensures.solved c.in-Ok-solved_text.ensures)
