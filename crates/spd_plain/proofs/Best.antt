@@ -1,5 +1,5 @@
 -- The greatest of a list, and its first place.
-use Rattle.std.proofs.Common.{◌≡◌, ◌⊎◌, inl, inr, ℕ, zero, suc, ◌+◌, ◌<◌, ◌≤◌, List, [], ◌∷◌, ◌++◌, length, map, fold, ℤ, pos, ◌≤ℤ◌, refl, ap, sym, ◌∙◌, subst, arith, take, drop, get_or, add-one, Bool, true, false, cond, eqb, nat_lt, ◌<ℤ◌, int_lt, unwrap_or, Some, None, not, length-append, length-take}
+use Rattle.std.proofs.Common.{◌≡◌, ℕ, ◌+◌, ◌<◌, List, [], ◌∷◌, ◌++◌, length, map, fold, ℤ, ◌≤ℤ◌, refl, ap, sym, ◌∙◌, subst, arith, take, drop, get_or, Bool, true, false, cond, eqb, nat_lt, ◌<ℤ◌, unwrap_or, Some, None, not, length-append, length-take}
 use Rattle.std.proofs.lemmas.Int.{ints}
 use Rattle.std.proofs.lemmas.List.{take_more, map_push}
 use Rattle.std.proofs.Math.ListN.{length-map}
@@ -9,7 +9,7 @@ use Rattle.std.specs.Ordering.{int_eq}
 use Rattle.std.proofs.lemmas.Bool.Decides.{nat_tests}
 use Rattle.std.proofs.lemmas.List.Folds.{position_or_len_push}
 use Rattle.std.proofs.lemmas.List.Elements.{All-cons, All-head, All-tail, All-weaker}
-use Rattle.std.proofs.lemmas.Int.{fold-int_max_bounds, fold-int_max_reached, int_max_is}
+use Rattle.std.proofs.lemmas.Int.{fold-int_max_bounds, int_max_is}
 use Rattle.spd_scaled.proofs.Ring.{int_eq-true, int_eq-holds}
 use Rattle.spd_model.specs.Numbers.{greatest, first_place}
 
@@ -91,15 +91,15 @@ below_all x g best y e p lt = omega (arith, ints)
 pub first_best_moves : (xs : List ℤ) (best : ℤ) (place : ℕ) (y : ℤ) → IsFirstBest xs best place → best <ℤ y → IsFirstBest (xs ++ y ∷ []) y (length xs)
 first_best_moves xs best place y h lt =
     let late : position_or_len (int_eq y) xs ≡ length xs =
-        none_equal y xs (All-weaker (λ x. x ≤ℤ greatest xs) (λ x. x <ℤ y) (λ x p. below_all x (greatest xs) best y h.greatest_is p lt) xs (greatest_bounds xs)) in
+    none_equal y xs (All-weaker (λ x. x ≤ℤ greatest xs) (λ x. x <ℤ y) (λ x p. below_all x (greatest xs) best y h.greatest_is p lt) xs (greatest_bounds xs)) in
     let at_end : eqb (position_or_len (int_eq y) xs) (length xs) ≡ true = grind (arith, nat_tests, late) in
     record {
       greatest_is = sym (greatest-push xs y (omega (arith, h.within)) ∙ ap (λ g. int_max g y) (sym h.greatest_is) ∙ max_right best y lt);
       place_is = omega (
         arith,
         position_or_len_push (int_eq y) xs y
-        ∙ ap (λ b. cond b (length xs + cond (int_eq y y) 0 1) (position_or_len (int_eq y) xs)) at_end
-        ∙ ap (λ b. length xs + cond b 0 1) (int_eq-holds y y refl),
+            ∙ ap (λ b. cond b (length xs + cond (int_eq y y) 0 1) (position_or_len (int_eq y) xs)) at_end
+            ∙ ap (λ b. length xs + cond b 0 1) (int_eq-holds y y refl),
       );
       within = omega (arith, length-append xs (y ∷ []));
     }

@@ -1,8 +1,8 @@
 -- The residual is one of the gaps of some state.
-use Rattle.std.proofs.Common.{◌≡◌, ◌⊎◌, inl, inr, ℕ, zero, suc, ◌+◌, ◌*◌, ◌<◌, ◌≤◌, Bool, true, false, ◌||◌, List, [], ◌∷◌, length, map, fold, take, get_or, slice_index, find, Some, All, Contains, ℤ, pos, ◌+ℤ◌, ◌-ℤ◌, ◌*ℤ◌, ◌≤ℤ◌, ◌<ℤ◌, int_lt, cond, refl, ap, sym, ◌∙◌, subst, arith}
+use Rattle.std.proofs.Common.{◌≡◌, ◌⊎◌, inl, inr, ℕ, zero, suc, ◌<◌, Bool, true, false, ◌||◌, List, [], ◌∷◌, length, map, fold, get_or, slice_index, All, Contains, ℤ, pos, ◌≤ℤ◌, ◌<ℤ◌, int_lt, cond, refl, ap, sym, ◌∙◌, subst, arith}
 use Rattle.std.specs.Int.{int_max}
 use Rattle.std.specs.Ordering.{int_eq}
-use Rattle.std.proofs.lemmas.Bool.{false≢true, cases_lt}
+use Rattle.std.proofs.lemmas.Bool.{false≢true}
 use Rattle.std.proofs.lemmas.Int.{ints, int_max_is, fold-int_max_reached, fold-int_max_bounds}
 use Rattle.std.proofs.lemmas.List.{get_or-map}
 use Rattle.std.proofs.Math.ListN.{length-map}
@@ -13,8 +13,8 @@ use Rattle.spd_scaled.proofs.DivisionLaws.{floor_div_mono, floor_div-≤ℤ-ceil
 use Rattle.spd_model.specs.declared.process.Action.{Action}
 use Rattle.spd_model.specs.Process.{Process}
 use Rattle.spd_model.specs.Numbers.{sum_below, greatest}
-use Rattle.spd_model.specs.States.{sizes, states, state_count, IsState}
-use Rattle.spd_model.specs.Chances.{one, probability, reward_of, IsValid}
+use Rattle.spd_model.specs.States.{sizes, states, IsState}
+use Rattle.spd_model.specs.Chances.{one, probability, IsValid}
 use Rattle.spd_model.specs.Backup.{expected_by, low_of, high_of, best_low, best_high}
 use Rattle.spd_model.specs.Turns.{gap_above, gap_below, residual_of}
 use Rattle.spd_plain.proofs.StateOrder.{IsState-get_or, length-states}

@@ -1,13 +1,11 @@
 -- No value of any turn passes its greatest magnitude, for any number of variables.
-use Rattle.std.proofs.Common.{◌≡◌, ◌⊎◌, inl, inr, ℕ, zero, suc, ◌+◌, ◌*◌, ◌^◌, ◌<◌, ◌≤◌, Bool, true, false, if◌then◌else◌, List, [], ◌∷◌, ◌++◌, length, map, fold, get_or, slice_index, All, Contains, ℤ, pos, ◌+ℤ◌, ◌*ℤ◌, ◌≤ℤ◌, ◌<ℤ◌, int_le, neg_ℤ, unsigned_abs, refl, ap, sym, ◌∙◌, subst, arith}
+use Rattle.std.proofs.Common.{◌≡◌, inl, inr, ℕ, zero, suc, ◌<◌, Bool, true, false, if◌then◌else◌, List, [], ◌∷◌, length, map, fold, get_or, slice_index, All, Contains, ℤ, pos, ◌+ℤ◌, ◌*ℤ◌, ◌≤ℤ◌, int_le, ap, sym, ◌∙◌, subst, arith}
 use Rattle.std.specs.Int.{int_max}
 use Rattle.std.specs.List.{list_any}
-use Rattle.std.specs.Ordering.{int_eq}
 use Rattle.std.proofs.lemmas.Bool.{cases_lt}
 use Rattle.std.proofs.lemmas.Int.{ints, int_max_is}
-use Rattle.std.proofs.lemmas.List.{get_or-map, get_or_past}
-use Rattle.std.proofs.Math.ListN.{length-map}
-use Rattle.std.proofs.lemmas.List.Elements.{All-nil, All-cons, All-head, All-tail, All-append, All-push, All-map, All-from_get_or, All-contains_itself, All-weaker}
+use Rattle.std.proofs.lemmas.List.{get_or_past}
+use Rattle.std.proofs.lemmas.List.Elements.{All-nil, All-cons, All-head, All-tail, All-map, All-from_get_or, All-contains_itself, All-weaker}
 use Rattle.spd_scaled.specs.Scaled.{IsWithin, floor_div, ceil_div}
 use Rattle.spd_scaled.proofs.Magnitude.{IsWithin_zero, IsWithin_mono, IsWithin-from_abs, IsWithin-+ℤ}
 use Rattle.spd_scaled.proofs.DivisionLaws.{IsWithin-floor_div}
@@ -16,9 +14,9 @@ use Rattle.spd_model.specs.declared.process.Action.{Action}
 use Rattle.spd_model.specs.Process.{Process}
 use Rattle.spd_model.specs.Lawful.{IsLawful}
 use Rattle.spd_model.specs.Numbers.{sum_below, greatest}
-use Rattle.spd_model.specs.States.{sizes, states, state_count, table_of, at, rank, IsState}
+use Rattle.spd_model.specs.States.{sizes, states, table_of, at, rank, IsState}
 use Rattle.spd_model.specs.Chances.{one, probability, reward_of, reward_limit, IsValid}
-use Rattle.spd_model.specs.Backup.{Rounding, expected_by, return_of, low_of, high_of, best_low, best_high}
+use Rattle.spd_model.specs.Backup.{Rounding, expected_by, return_of, best_low, best_high}
 use Rattle.spd_model.specs.Ranges.{Range, is_same, is_before, with_range, in_order, Group, group_of, joined, groups_from, groups_of, middle_of, value_in, merged}
 use Rattle.spd_model.specs.Turns.{start_of, ranges_of, next_of, turn}
 use Rattle.spd_plain.specs.Outlooks.{value_limit}

@@ -1,9 +1,8 @@
 -- Models of one variable: a state is one value number.
-use Rattle.std.proofs.Common.{◌≡◌, ℕ, zero, suc, ◌+◌, ◌*◌, ◌<◌, ◌≤◌, List, [], ◌∷◌, length, map, get_or, slice_index, ℤ, pos, All, refl, ap, sym, ◌∙◌, subst, arith}
+use Rattle.std.proofs.Common.{◌≡◌, ℕ, ◌<◌, ◌≤◌, List, [], ◌∷◌, length, map, get_or, slice_index, ℤ, pos, All, refl, ap, sym, ◌∙◌, subst, arith}
 use Rattle.std.proofs.lemmas.List.{get_or-map}
 use Rattle.spd_model.specs.declared.process.Var.{Var}
 use Rattle.spd_model.specs.Process.{Process}
-use Rattle.spd_model.specs.Numbers.{numbers_below}
 use Rattle.spd_model.specs.States.{sizes, states, state_count, rank, at, IsState}
 use Rattle.spd_model.specs.Lawful.{IsLawful, HasValues}
 use Rattle.spd_plain.proofs.StateOrder.{get_or-states_at, state_at}

@@ -1,5 +1,5 @@
 -- What the rows of outlooks give: the bounds, the gaps and the policy of the definitions.
-use Rattle.std.proofs.Common.{◌≡◌, inl, inr, ℕ, zero, suc, ◌+◌, ◌*◌, ◌^◌, ◌<◌, ◌≤◌, List, [], ◌∷◌, ◌++◌, length, map, take, take_all, get_or, slice_index, All, Contains, ℤ, pos, ◌*ℤ◌, ◌+ℤ◌, ◌-ℤ◌, ◌≤ℤ◌, refl, ap, sym, ◌∙◌, subst, arith}
+use Rattle.std.proofs.Common.{◌≡◌, inl, inr, ℕ, zero, suc, ◌+◌, ◌^◌, ◌<◌, ◌≤◌, List, [], ◌∷◌, ◌++◌, length, map, take, take_all, get_or, slice_index, All, Contains, ℤ, pos, ◌*ℤ◌, ◌+ℤ◌, ◌-ℤ◌, ◌≤ℤ◌, refl, ap, sym, ◌∙◌, subst, arith}
 use Rattle.std.specs.Int.{int_max}
 use Rattle.std.proofs.lemmas.Bool.{cases_lt}
 use Rattle.std.proofs.lemmas.Int.{ints}
@@ -14,7 +14,7 @@ use Rattle.spd_model.specs.declared.Side.TheVariants.{Above, Below}
 use Rattle.spd_model.specs.Process.{Process}
 use Rattle.spd_model.specs.Lawful.{IsLawful}
 use Rattle.spd_model.specs.Numbers.{numbers_below, sum_below, greatest, first_place}
-use Rattle.spd_model.specs.States.{sizes, states, state_count, table_of, at, rank, IsState}
+use Rattle.spd_model.specs.States.{sizes, states, state_count, at, rank, IsState}
 use Rattle.spd_model.specs.Chances.{one, probability, reward_of, reward_limit, IsValid}
 use Rattle.spd_model.specs.Backup.{Rounding, expected_by, return_of, best_low, best_high, policy_of, highest_of}
 use Rattle.spd_model.specs.Ranges.{Range}

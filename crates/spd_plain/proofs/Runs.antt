@@ -1,9 +1,9 @@
 -- The run of value iteration, turn after turn.
-use Rattle.std.proofs.Common.{◌≡◌, ℕ, zero, suc, ◌+◌, ◌-◌, ◌*◌, ◌^◌, ◌<◌, ◌≤◌, Bool, true, false, if◌then◌else◌, List, [], ◌∷◌, length, map, fold, get_or, All, ℤ, pos, ◌-ℤ◌, ◌≤ℤ◌, refl, ap, sym, ◌∙◌, subst, arith}
+use Rattle.std.proofs.Common.{◌≡◌, ℕ, zero, suc, ◌+◌, ◌-◌, ◌^◌, ◌<◌, true, false, if◌then◌else◌, List, [], ◌∷◌, length, map, fold, get_or, All, ℤ, pos, ◌-ℤ◌, ap, sym, ◌∙◌, subst, arith}
 use Rattle.std.specs.Int.{int_max}
 use Rattle.std.proofs.lemmas.Int.{ints, int_max_is}
 use Rattle.std.proofs.Math.ListN.{length-map}
-use Rattle.std.proofs.lemmas.List.Elements.{All-head, All-tail, All-map}
+use Rattle.std.proofs.lemmas.List.Elements.{All-head, All-tail}
 use Rattle.spd_scaled.specs.Scaled.{IsWithin}
 use Rattle.spd_scaled.proofs.Magnitude.{IsWithin_zero}
 use Rattle.spd_model.specs.declared.Why.{Why}
@@ -11,12 +11,12 @@ use Rattle.spd_model.specs.declared.Why.TheVariants.{Done, Limit}
 use Rattle.spd_model.specs.Process.{Process}
 use Rattle.spd_model.specs.Lawful.{IsLawful}
 use Rattle.spd_model.specs.Numbers.{greatest}
-use Rattle.spd_model.specs.States.{sizes, states, state_count, at, rank, IsState, table_of}
+use Rattle.spd_model.specs.States.{sizes, state_count, at, rank, table_of}
 use Rattle.spd_model.specs.Chances.{IsValid, reward_of}
-use Rattle.spd_model.specs.Ranges.{merged, groups_of, in_order, value_in}
-use Rattle.spd_model.specs.Turns.{Stop, start_of, ranges_of, next_of, turn, residual_of, stops_at, stop_from}
+use Rattle.spd_model.specs.Ranges.{groups_of, in_order, value_in}
+use Rattle.spd_model.specs.Turns.{Stop, ranges_of, next_of, turn, residual_of, stops_at, stop_from}
 use Rattle.spd_plain.specs.declared.outlook.Outlook.{Outlook}
-use Rattle.spd_plain.specs.Outlooks.{value_limit, outlooks_of, AreBounded}
+use Rattle.spd_plain.specs.Outlooks.{outlooks_of, AreBounded}
 use Rattle.spd_plain.specs.Sweeps.{CanSweep}
 use Rattle.spd_plain.proofs.StateOrder.{length-table_of}
 use Rattle.spd_plain.proofs.Limits.{IsLimited, turn_limited, best_low_limited, best_high_limited, All-table_of}

@@ -1,8 +1,8 @@
 -- The states in order, and the tables over them.
-use Rattle.std.proofs.Common.{◌≡◌, ℕ, zero, suc, ◌+◌, ◌-◌, ◌*◌, ◌/◌, ◌%◌, ◌<◌, ◌≤◌, List, [], ◌∷◌, ◌++◌, length, map, get_or, ℤ, pos, refl, ap, sym, ◌∙◌, subst, arith, length-append, below_more, add-one}
+use Rattle.std.proofs.Common.{◌≡◌, ℕ, zero, suc, ◌+◌, ◌*◌, ◌/◌, ◌%◌, ◌<◌, List, [], ◌∷◌, ◌++◌, length, map, get_or, ℤ, pos, refl, ap, sym, ◌∙◌, subst, arith, length-append, below_more}
 use Rattle.std.specs.List.{flat_map}
 use Rattle.std.proofs.lemmas.Grind.{flat_map-append}
-use Rattle.std.proofs.lemmas.List.{map-append, get_or-map, get_or_append_left, get_or-append-add, get_or_push, ext_get_or}
+use Rattle.std.proofs.lemmas.List.{get_or-map, get_or_append_left, get_or-append-add, get_or_push}
 use Rattle.std.proofs.Math.ListN.{length-map}
 use Rattle.std.proofs.Math.Nat.{mul-le-mul_right, div-add-mod', mod-lt}
 use Rattle.spd_model.specs.Numbers.{numbers_below}
@@ -109,7 +109,6 @@ get_or-numbers_below (suc n) i h = below_more (λ k. get_or (numbers_below n ++ 
 pub get_or-states_at : (sizes : List ℕ) (k : ℕ) → k < state_count sizes → get_or (states sizes) k [] ≡ state_at sizes k
 get_or-states_at sizes k h =
     ap (λ (j : ℕ). get_or (states sizes) j []) (sym (rank-state_at sizes k h)) ∙ get_or-states sizes (state_at sizes k) (IsState-state_at sizes k h)
-
 
 pub length-table_of : {X : Type 0} (sizes : List ℕ) (f : List ℕ → X) → length (table_of sizes f) ≡ state_count sizes
 length-table_of sizes f = length-map (states sizes) f ∙ length-states sizes

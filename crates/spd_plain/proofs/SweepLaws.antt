@@ -1,5 +1,5 @@
 -- What the ranges of a sweep are, place by place.
-use Rattle.std.proofs.Common.{◌≡◌, ℕ, ◌+◌, ◌^◌, ◌<◌, ◌≤◌, List, [], length, map, get_or, All, ℤ, pos, ◌-ℤ◌, ◌||◌, if◌then◌else◌, Bool, true, false, take, unwrap_or, ap, sym, ◌∙◌, subst, arith}
+use Rattle.std.proofs.Common.{◌≡◌, ℕ, ◌^◌, ◌<◌, List, [], length, map, get_or, All, ℤ, pos, ◌-ℤ◌, ◌||◌, if◌then◌else◌, Bool, true, false, take, unwrap_or, ap, sym, ◌∙◌, subst, arith}
 use Rattle.std.specs.Ordering.{int_eq}
 use Rattle.std.proofs.lemmas.Int.{ints}
 use Rattle.std.proofs.lemmas.List.{get_or-map}
@@ -12,13 +12,13 @@ use Rattle.spd_model.specs.Process.{Process}
 use Rattle.spd_model.specs.Lawful.{IsLawful}
 use Rattle.spd_model.specs.States.{sizes, states, state_count, at, rank}
 use Rattle.spd_model.specs.Chances.{IsValid}
-use Rattle.spd_model.specs.Backup.{best_low, best_high, policy_of, highest_of}
+use Rattle.spd_model.specs.Backup.{policy_of, highest_of}
 use Rattle.spd_model.specs.Ranges.{Range}
 use Rattle.spd_model.specs.Turns.{Place, place_of, gap_above, gap_below, ranges_of, state_of_residual}
 use Rattle.spd_plain.specs.declared.ranges.Bounds.{Bounds}
 use Rattle.spd_plain.specs.Bounds.{range_of, IsSmall}
 use Rattle.spd_plain.specs.Outlooks.{AreBounded, value_limit}
-use Rattle.spd_plain.proofs.StateOrder.{length-states, length-table_of, get_or-table_of, at-get_or}
+use Rattle.spd_plain.proofs.StateOrder.{length-table_of, get_or-table_of, at-get_or}
 use Rattle.spd_plain.proofs.Limits.{IsLimited, IsLimitedRange, ranges_limited}
 use Rattle.spd_plain.proofs.Finds.{find_first}
 use Rattle.spd_plain.proofs.Rows.{range_at, action_of}

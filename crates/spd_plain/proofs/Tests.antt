@@ -1,5 +1,5 @@
 -- Tests on numbers of 128 bits.
-use Rattle.std.proofs.Common.{◌≡◌, Bool, true, false, nat_eq, refl, eq-eqb, eqb-true, ℤ, pos, FitsSigned, to_z, of_z, ap, sym, ◌∙◌}
+use Rattle.std.proofs.Common.{◌≡◌, Bool, true, false, nat_eq, refl, eq-eqb, eqb-true, ℤ, FitsSigned, to_z, of_z, ap, sym, ◌∙◌}
 use Rattle.std.specs.Ordering.{int_eq}
 use Rattle.std.proofs.lemmas.Int.{to_z-of_z}
 use mir.Syntax.{w128}

@@ -1,11 +1,11 @@
 -- What holds of each number that is written in a tree holds of the tree's value.
-use Rattle.std.proofs.Common.{◌≡◌, ℕ, zero, suc, ◌+◌, ◌<◌, ◌≤◌, ◌^◌, Bool, List, [], ◌∷◌, ◌++◌, length, get_or, flat_map, slice_index, All, if◌then◌else◌, ℤ, pos, ◌≤ℤ◌, unsigned_abs, refl, sym, subst, arith, inl, inr, length-append}
+use Rattle.std.proofs.Common.{◌≡◌, ℕ, zero, suc, ◌^◌, List, [], ◌∷◌, ◌++◌, length, get_or, flat_map, slice_index, All, if◌then◌else◌, ℤ, pos, ◌≤ℤ◌, refl, sym, subst, arith, inl, inr, length-append}
 use Rattle.std.proofs.lemmas.Int.{ints}
 use Rattle.std.proofs.lemmas.Bool.{cases_lt}
 use Rattle.std.proofs.lemmas.List.{get_or_append_left, get_or_push, get_or_past}
 use Rattle.spd_model.specs.declared.tree.Tree.{Tree, Leaf, Named, Branch', Row_of-Tree, end_of-Tree, more_of-Tree}
 use Rattle.spd_model.specs.Process.{Process}
-use Rattle.spd_model.specs.Trees.{read_tree, read_kids, read_diagrams, following, value_of, Part, number, choice, missing, parts, parts_of}
+use Rattle.spd_model.specs.Trees.{read_tree, read_kids, read_diagrams, following, value_of, Part, number, missing, parts, parts_of}
 use Rattle.spd_model.specs.Lawful.{Fits, FitsTable}
 use Rattle.spd_model.proofs.TreeLaws.{All-first, All-rest, All-left, All-right}
 use Rattle.spd_scaled.specs.Scaled.{IsWithin}
@@ -18,6 +18,7 @@ module _ (P : Part → Type 0) (Q : ℤ → Type 0) (none : Q (pos 0)) (each : (
 
   mutual
     unfolding AreSuch
+
     tree_such : (diagrams : List ℤ) (written : List (List Part)) → AreSuch diagrams written → (tree : Tree)
         → All P (read_tree parts written tree) → Q (read_tree (following s t) diagrams tree)
     tree_such diagrams written such (Leaf x) h = each x (All-first P (number x) [] h)
@@ -40,10 +41,10 @@ module _ (P : Part → Type 0) (Q : ℤ → Type 0) (none : Q (pos 0)) (each : (
         | inl near ↦ subst Q (sym (get_or_append_left diagrams (x ∷ []) (pos 0) d near))
             (such d (subst (All P) (get_or_append_left written (own ∷ []) (missing ∷ []) d (omega arith)) h))
         | inr far ↦ elim (cases_lt (length diagrams) d) [
-            | inl past ↦ subst Q (sym (get_or_past (diagrams ++ x ∷ []) d (pos 0) (omega (arith, length-append diagrams (x ∷ []))))) none
-            | inr last ↦ let at : length diagrams ≡ d = omega arith in
-                subst Q (sym (get_or_push diagrams x (pos 0) d at)) (new (subst (All P) (get_or_push written own (missing ∷ []) d (omega arith)) h))
-          ]
+          | inl past ↦ subst Q (sym (get_or_past (diagrams ++ x ∷ []) d (pos 0) (omega (arith, length-append diagrams (x ∷ []))))) none
+          | inr last ↦ let at : length diagrams ≡ d = omega arith in
+              subst Q (sym (get_or_push diagrams x (pos 0) d at)) (new (subst (All P) (get_or_push written own (missing ∷ []) d (omega arith)) h))
+        ]
       ]
 
   diagrams_such : (dds : List Tree) (diagrams : List ℤ) (written : List (List Part)) → length diagrams ≡ length written → AreSuch diagrams written

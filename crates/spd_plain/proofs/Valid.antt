@@ -1,5 +1,5 @@
 -- A lawful model with no wrong sum and no wide reward is valid.
-use Rattle.std.proofs.Common.{◌≡◌, ℕ, zero, suc, ◌+◌, ◌<◌, ◌≤◌, Bool, true, false, not, nat_le, cond, List, [], ◌∷◌, ◌++◌, length, map, flat_map, get_or, slice_get, slice_set, find, Option, None, Some, All, Contains, ℤ, pos, ◌≤ℤ◌, unsigned_abs, refl, ap, sym, ◌∙◌, subst, arith}
+use Rattle.std.proofs.Common.{◌≡◌, ℕ, zero, suc, ◌<◌, ◌≤◌, Bool, true, false, not, nat_le, cond, List, [], ◌∷◌, length, map, flat_map, get_or, slice_get, slice_set, find, None, Some, All, Contains, pos, ◌≤ℤ◌, unsigned_abs, refl, sym, subst, arith}
 use Rattle.std.specs.List.{enumerate_from}
 use Rattle.std.specs.Ordering.{int_eq}
 use Rattle.std.proofs.lemmas.Bool.{false≢true}
@@ -17,7 +17,7 @@ use Rattle.spd_model.specs.Trees.{value_of}
 use Rattle.spd_model.specs.Lawful.{IsLawful, IsAction, IsTable}
 use Rattle.spd_model.specs.Numbers.{numbers_below}
 use Rattle.spd_model.specs.States.{sizes, states, rank, IsState}
-use Rattle.spd_model.specs.Chances.{Sum, Reward, one, probability, sum_of, reward_of, reward_limit, sums_of, rewards_of, first_wrong_sum, first_wide_reward, IsValid}
+use Rattle.spd_model.specs.Chances.{Sum, Reward, one, sum_of, reward_of, reward_limit, sums_of, rewards_of, first_wrong_sum, first_wide_reward, IsValid}
 use Rattle.spd_model.proofs.TreeLaws.{All-left, All-right}
 use Rattle.spd_plain.proofs.StateOrder.{length-states, rank_below, get_or-states, length-numbers_below, get_or-numbers_below}
 use Rattle.spd_plain.proofs.TreeValues.{table_nonnegative}

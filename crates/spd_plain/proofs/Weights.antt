@@ -1,13 +1,13 @@
 -- Sums weighted by chances: no more in magnitude than the greatest of the values.
-use Rattle.std.proofs.Common.{◌≡◌, ◌⊎◌, inl, inr, ℕ, zero, suc, ◌+◌, ◌*◌, ◌<◌, ◌≤◌, List, length, ℤ, pos, ◌+ℤ◌, ◌*ℤ◌, ◌≤ℤ◌, refl, ap, sym, ◌∙◌, subst, arith, slice_index_or, FitsSigned, add-one, lit<}
+use Rattle.std.proofs.Common.{◌≡◌, ◌⊎◌, inl, inr, ℕ, zero, suc, ◌+◌, ◌<◌, ◌≤◌, List, length, ℤ, pos, ◌+ℤ◌, ◌*ℤ◌, ◌≤ℤ◌, ap, sym, subst, arith, slice_index_or, FitsSigned, add-one}
 use Rattle.std.proofs.lemmas.Int.{ints}
 use mir.Syntax.{w128}
 use Rattle.spd_scaled.specs.Scaled.{IsWithin}
-use Rattle.spd_scaled.proofs.Ring.{*ℤ_mono, *ℤ_comm, ≤ℤ_trans, zero-*ℤ}
-use Rattle.spd_scaled.proofs.Magnitude.{IsWithin_zero, IsWithin_mono, IsWithin-*ℤ, IsWithin-weighted_more, fits_within}
+use Rattle.spd_scaled.proofs.Ring.{*ℤ_mono, zero-*ℤ}
+use Rattle.spd_scaled.proofs.Magnitude.{IsWithin_mono, IsWithin-*ℤ, IsWithin-weighted_more, fits_within}
 use Rattle.spd_model.specs.Numbers.{sum_below}
 use Rattle.spd_model.specs.Chances.{one}
-use Rattle.spd_plain.specs.Outlooks.{weighted, IsDistribution, AreBounded, value_limit}
+use Rattle.spd_plain.specs.Outlooks.{IsDistribution, AreBounded, value_limit}
 
 split_last : (m n : ℕ) → m ≤ suc n → (m ≤ n) ⊎ (m ≡ suc n)
 split_last m n h = grind arith

@@ -1,5 +1,5 @@
 -- The faults of a model, action after action.
-use Rattle.std.proofs.Common.{◌≡◌, ℕ, ◌+◌, ◌<◌, List, [], ◌∷◌, ◌++◌, map, flat_map, get_or, length, find, not, nat_le, unsigned_abs, refl, ap, sym, ◌∙◌, arith}
+use Rattle.std.proofs.Common.{◌≡◌, ℕ, ◌+◌, ◌<◌, List, map, flat_map, get_or, length, find, not, ap, sym, ◌∙◌, arith}
 use Rattle.std.specs.List.{enumerate_from}
 use Rattle.std.specs.Ordering.{int_eq}
 use Rattle.std.proofs.lemmas.List.{append-nil}
@@ -8,8 +8,8 @@ use Rattle.spd_model.specs.declared.process.Action.{Action}
 use Rattle.spd_model.specs.Process.{Process}
 use Rattle.spd_model.specs.Numbers.{numbers_below}
 use Rattle.spd_model.specs.States.{sizes, states}
-use Rattle.spd_model.specs.Chances.{Sum, Reward, sum_of, reward_of, one, reward_limit}
-use Rattle.spd_plain.specs.Faults.{wrong_sum_after, wide_reward_after}
+use Rattle.spd_model.specs.Chances.{Sum, Reward, sum_of, reward_of, one}
+use Rattle.spd_plain.specs.Faults.{wrong_sum_after}
 
 -- the sums after one action, and its rewards
 abbrev pub sums_after : Process → ℕ × Action → List Sum

@@ -1,5 +1,5 @@
 -- The faults of a model: a sum of probabilities that isn't one, a reward that passes its limit.
-use Rattle.std.specs.Prelude.{ℕ, not, nat_le, List, map, flat_map, find, unsigned_abs, Option}
+use Rattle.std.specs.Prelude.{ℕ, not, nat_le, map, find, unsigned_abs, Option}
 use Rattle.std.specs.Ordering.{int_eq}
 use Rattle.spd_model.specs.declared.process.Action.{Action}
 use Rattle.spd_model.specs.Process.{Process}

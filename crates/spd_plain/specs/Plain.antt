@@ -1,5 +1,5 @@
 -- What value iteration on plain tables ends with.
-use Rattle.std.specs.Prelude.{ℕ, ◌≡◌, length, ℤ, Option, Some, None, MatchResult, Result}
+use Rattle.std.specs.Prelude.{ℕ, ◌≡◌, length, ℤ, Some, None, MatchResult, Result}
 use Rattle.spd_model.specs.Process.{Process}
 use Rattle.spd_model.specs.States.{sizes, table_of, at, state_count, IsState}
 use Rattle.spd_model.specs.Chances.{first_wrong_sum, first_wide_reward}

@@ -5,11 +5,10 @@ ghost use Rattle.spd_scaled.specs.Scaled.{IsWithin, floor_div as floor_of, ceil_
 ghost use Rattle.spd_model.specs.Numbers.{greatest, first_place};
 ghost use Rattle.spd_plain.specs.Outlooks.{AreBounded, AreOutlooks, IsDistribution, IsOutlook, value_limit, weighted, return_by, rounding_of};
 
-use spd_model::Side;
-use spd_scaled::{ceil_div, floor_div};
-
 use crate::outlook::Outlook;
 use crate::ranges::Bounds;
+use spd_model::Side;
+use spd_scaled::{ceil_div, floor_div};
 
 /// One, as a probability.
 const ONE: i128 = 1_000_000_000_000;
@@ -82,12 +81,7 @@ fn bound_of(outlook: &Outlook, discount: u32, values: &[i128], side: Side) -> i1
 }
 
 /// The number of the first action that has the greatest bound on a side.
-pub(crate) fn best_action(
-    outlooks: &[Outlook],
-    discount: u32,
-    values: &[i128],
-    side: Side,
-) -> u32
+pub(crate) fn best_action(outlooks: &[Outlook], discount: u32, values: &[i128], side: Side) -> u32
     requires outlooks { AreOutlooks values.now outlooks.now }
     requires discount { discount ≤ 999999 }
     requires values { AreBounded values.now }

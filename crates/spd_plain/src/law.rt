@@ -12,9 +12,6 @@ ghost use Rattle.spd_plain.specs.Outlooks.{value_limit};
 ///
 /// So every sum and product of the rules fits 128 bits.
 pub fn law_bounded()
-    ensures {
-        (m : Process) → IsLawful m → IsValid m → (span : ℤ) → pos 0 ≤ℤ span → (k : ℕ) →
-        All (IsWithin (pos value_limit)) (turn m span k)
-    }
-{
-}
+    ensures { (m : Process) → IsLawful m → IsValid m → (span : ℤ) → pos 0 ≤ℤ span → (k : ℕ) →
+        All (IsWithin (pos value_limit)) (turn m span k) }
+{}

@@ -4,12 +4,11 @@ ghost use Rattle.std.specs.Prelude.{◌≡◌, ◌<◌, length, map, IfOk, Conta
 ghost use Rattle.spd_model.specs.States.{sizes, IsState};
 ghost use Rattle.spd_plain.specs.Outlooks.{outlook_of, outlooks_at as outlooks_at_of, outlooks_of};
 
+use crate::states::{state_at, state_count};
+use crate::validity::{chance, reward};
 use spd_model::{Action, Model, State};
 use sqlite_items::Items;
 use std::alloc::{AllocError, Global};
-
-use crate::states::{state_at, state_count};
-use crate::validity::{chance, reward};
 
 /// What an action comes to at a state.
 #[derive(Debug, Drop)]
@@ -21,7 +20,12 @@ pub struct Outlook {
 }
 
 /// What `action` comes to at `s`.
-fn outlook_after(alloc: Global, model: &Model, action: &Action, s: &State) -> Result<Outlook, AllocError>
+fn outlook_after(
+    alloc: Global,
+    model: &Model,
+    action: &Action,
+    s: &State,
+) -> Result<Outlook, AllocError>
     requires one_variable { length model.now.vars ≡ 1 }
     requires action { Contains model.now.actions action.now }
     requires state { IsState (sizes model.now) s.now }

@@ -9,15 +9,14 @@ ghost use Rattle.spd_plain.specs.Outlooks.{outlooks_of, value_limit};
 ghost use Rattle.spd_plain.specs.Sweeps.{CanSweep, IsSweep};
 ghost use Rattle.spd_plain.specs.Plain.{plain_of, stop_record, Cause, IsShaped, IsPlaced};
 
-use spd_model::{Model, Side, State, Why};
-use spd_scaled::ceil_div;
-use sqlite_items::Items;
-use std::alloc::{AllocError, Global};
-
 use crate::outlook::{Outlook, tabulate};
 use crate::ranges::merge_ranges;
 use crate::sweep::{Sweep, policy, residual_place, start, sweep_states};
 use crate::validity::{first_wide_reward, first_wrong_sum};
+use spd_model::{Model, Side, State, Why};
+use spd_scaled::ceil_div;
+use sqlite_items::Items;
+use std::alloc::{AllocError, Global};
 
 /// What value iteration ends with.
 #[derive(Debug, Drop)]
@@ -149,12 +148,7 @@ impl From<AllocError> for PlainFault {
 }
 
 /// The value function, the policy and the residual of a valid model.
-fn solve_valid(
-    alloc: Global,
-    model: &Model,
-    turns: u32,
-    span: i128,
-) -> Result<Plain, AllocError>
+fn solve_valid(alloc: Global, model: &Model, turns: u32, span: i128) -> Result<Plain, AllocError>
     requires one_variable { length model.now.vars ≡ 1 }
     requires valid { IsValid model.now }
     requires turns { turns ≤ 1000000 }

@@ -13,14 +13,13 @@ ghost use Rattle.spd_plain.specs.Bounds.{IsSmall};
 ghost use Rattle.spd_plain.specs.Outlooks.{outlooks_of, value_limit, AreBounded};
 ghost use Rattle.spd_plain.specs.Sweeps.{CanSweep, IsSweep, place_record};
 
-use spd_model::{Model, Side, State};
-use sqlite_items::Items;
-use std::alloc::{AllocError, Global};
-
 use crate::backup::{best_action, best_bounds, best_reward};
 use crate::outlook::Outlook;
 use crate::ranges::Bounds;
 use crate::states::state_at;
+use spd_model::{Model, Side, State};
+use sqlite_items::Items;
+use std::alloc::{AllocError, Global};
 
 /// What a sweep over all states finds.
 #[derive(Debug, Drop)]
@@ -61,7 +60,11 @@ pub(crate) fn sweep_states(
 }
 
 /// The table of turn 0: the greatest reward over all actions, one entry per state in order.
-pub(crate) fn start(alloc: Global, model: &Model, rows: &[Items<Outlook>]) -> Result<Vec<i128>, AllocError>
+pub(crate) fn start(
+    alloc: Global,
+    model: &Model,
+    rows: &[Items<Outlook>],
+) -> Result<Vec<i128>, AllocError>
     requires rows { rows.now ≡ outlooks_of model.now }
     ensures { IfOk result (λ values. values.items ≡ start_of model.now) }
 {

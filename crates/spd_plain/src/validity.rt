@@ -10,10 +10,9 @@ ghost use Rattle.spd_model.specs.Lawful.{AreRewards};
 ghost use Rattle.spd_model.specs.Chances.{probability, sum_of, reward_of, first_wrong_sum as first_wrong_sum_of, first_wide_reward as first_wide_reward_of};
 ghost use Rattle.spd_plain.specs.Faults.{sum_record, reward_record, wrong_sum_after as wrong_sum_after_of, wide_reward_after as wide_reward_after_of};
 
+use crate::states::{state_at, state_count};
 use spd_model::{Action, Model, State, Tree};
 use spd_scaled::floor_div;
-
-use crate::states::{state_at, state_count};
 
 /// One, as a probability.
 const ONE: i128 = 1_000_000_000_000;
@@ -76,13 +75,13 @@ fn wrong_sum_after(model: &Model, number: usize, action: &Action) -> Option<Wron
     ensures { option_map sum_record result ≡ wrong_sum_after_of model.now number 0 action.now }
 {
     for place in 0..state_count(model) {
-        let state = state_at(model, place);
-        let sum = chance_sum(model, action, &state);
+        let s = state_at(model, place);
+        let sum = chance_sum(model, action, &s);
         if sum != ONE {
             return Some(WrongSum {
                 action: number as u32,
                 var: 0,
-                state,
+                state: s,
                 sum,
             });
         }

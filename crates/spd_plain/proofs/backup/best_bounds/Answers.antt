@@ -1,4 +1,4 @@
-use Rattle.std.proofs.Common.{rules, ◌≡◌, ◌∙◌, ◌-◌, ap, FitsSigned, List, take, drop, length}
+use Rattle.std.proofs.Common.{rules, ◌∙◌, ◌-◌, ap, FitsSigned, List, take, drop, length}
 use Rattle.std.proofs.lemmas.Int.{to_z-of_z}
 use mir.Syntax.{w128}
 use Rattle.spd_scaled.specs.Scaled.{floor_div, ceil_div}
@@ -22,7 +22,7 @@ loop-outlook-preserved c =
     let high_by = return_by ceil_div c.args.discount c.args.values.now in
     record {
       low = simp to_z-of_z (low ∙ greatest_more low_by rest c.loop-outlook.outlook-index c.outlook-item.result _ _ _ c.loop-outlook-test.true c.loop-outlook.invariant.low
-      (c.bounds_of-bounds.ensures.low ∙ ap low_by c.outlook-item.is));
+          (c.bounds_of-bounds.ensures.low ∙ ap low_by c.outlook-item.is));
       high = simp to_z-of_z (high ∙ greatest_more high_by rest c.loop-outlook.outlook-index c.outlook-item.result _ _ _ c.loop-outlook-test.true c.loop-outlook.invariant.high
-      (c.bounds_of-bounds.ensures.high ∙ ap high_by c.outlook-item.is));
+          (c.bounds_of-bounds.ensures.high ∙ ap high_by c.outlook-item.is));
     }

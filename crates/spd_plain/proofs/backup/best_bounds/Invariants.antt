@@ -1,4 +1,4 @@
-use Rattle.std.proofs.Common.{◌≡◌, map, fold, take, slice_index_or}
+use Rattle.std.proofs.Common.{◌≡◌, map, fold, take}
 use Rattle.std.specs.Int.{int_max}
 use Rattle.spd_scaled.specs.Scaled.{floor_div, ceil_div}
 use Rattle.spd_plain.specs.Outlooks.{return_by}

@@ -1,8 +1,7 @@
-use Rattle.std.proofs.Common.{rules, ◌≡◌, pos, ◌+ℤ◌, ◌*ℤ◌, FitsSigned, to_z, arith, ap, sym, ◌∙◌, subst}
+use Rattle.std.proofs.Common.{rules, ◌≡◌, pos, ◌+ℤ◌, ◌*ℤ◌, FitsSigned, to_z, arith, ap, ◌∙◌}
 use Rattle.std.proofs.lemmas.Int.{ints, to_z-of_z}
 use mir.Syntax.{w128}
 use Rattle.spd_scaled.specs.Scaled.{floor_div, ceil_div}
-use Rattle.spd_model.specs.Chances.{one}
 use Rattle.spd_plain.specs.Outlooks.{weighted}
 use Rattle.spd_plain.proofs.Returns.{floor_keeps, ceil_keeps, steps_of_return, return_is}
 use Rattle.spd_plain.proofs.backup.bounds_of.Goals as goal

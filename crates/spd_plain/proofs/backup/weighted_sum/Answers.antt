@@ -1,4 +1,4 @@
-use Rattle.std.proofs.Common.{rules, ◌≡◌, ◌<◌, length, pos, ℕ, ◌*ℤ◌, FitsSigned, slice_index_or, ℤ, ap, ◌∙◌, subst, sym, arith}
+use Rattle.std.proofs.Common.{rules, ◌≡◌, length, pos, ℕ, ◌*ℤ◌, FitsSigned, slice_index_or, ap, ◌∙◌, subst, sym, arith}
 use Rattle.std.proofs.lemmas.Int.{to_z-of_z}
 use mir.Syntax.{w128}
 use Rattle.spd_scaled.specs.Scaled.{IsWithin}

@@ -1,15 +1,13 @@
-use Rattle.std.proofs.Common.{rules, ◌≡◌, ◌∙◌, ℕ, ◌+◌, ◌-◌, ◌<◌, List, length, map, ap, sym, subst, FitsSigned, to_z, of_z, arith, add-one, All, ℤ, pos, if◌then◌else◌}
+use Rattle.std.proofs.Common.{rules, ◌≡◌, ◌∙◌, ◌+◌, ◌-◌, List, map, ap, sym, subst, FitsSigned, to_z, of_z, arith, add-one, ℤ, if◌then◌else◌}
 use Rattle.std.proofs.lemmas.Int.{to_z-of_z}
 use mir.Syntax.{w128}
 use Rattle.spd_scaled.specs.Scaled.{IsWithin}
 use Rattle.spd_model.specs.declared.Why.TheVariants.{Done, Limit}
 use Rattle.spd_model.specs.Lawful.{IsLawful}
 use Rattle.spd_model.specs.States.{sizes, at}
-use Rattle.spd_model.specs.Ranges.{Range, merged}
-use Rattle.spd_model.specs.Turns.{Stop, turn, next_of, ranges_of, stop_of, residual_of, stops_at, stop_from}
-use Rattle.spd_plain.specs.declared.ranges.Bounds.{Bounds}
-use Rattle.spd_plain.specs.Bounds.{range_of, IsSmall}
-use Rattle.spd_plain.specs.Sweeps.{CanSweep}
+use Rattle.spd_model.specs.Ranges.{merged}
+use Rattle.spd_model.specs.Turns.{turn, next_of, ranges_of, stop_of, residual_of, stops_at, stop_from}
+use Rattle.spd_plain.specs.Bounds.{range_of}
 use Rattle.spd_plain.proofs.SweepLaws.{all_small}
 use Rattle.spd_plain.proofs.Runs.{can_sweep, residual_within, stops_here, stops_later, stops_at_limit, stopped}
 use Rattle.spd_plain.proofs.solve.run_turns.Goals as goal

@@ -7,7 +7,7 @@ use Rattle.spd_model.specs.States.{sizes, at, table_of}
 use Rattle.spd_model.specs.Backup.{policy_of}
 use Rattle.spd_model.specs.Turns.{Stop, residual_of, place_of, error_of, stop_of}
 use Rattle.spd_plain.specs.declared.solve.Plain.{Plain}
-use Rattle.spd_plain.specs.Plain.{stop_record, plain_of}
+use Rattle.spd_plain.specs.Plain.{stop_record}
 use Rattle.spd_model.specs.Lawful.{IsLawful}
 use Rattle.spd_plain.proofs.Runs.{residual_within}
 use Rattle.spd_plain.proofs.solve.solve_valid.Goals as goal

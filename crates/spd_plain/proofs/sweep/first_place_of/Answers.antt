@@ -1,11 +1,11 @@
-use Rattle.std.proofs.Common.{rules, ◌≡◌, ◌∙◌, ◌<◌, ◌≤◌, refl, List, [], length, get_or, take, take_all, map, ap, sym, subst, FitsSigned, arith, pos, All, false, ℕ}
+use Rattle.std.proofs.Common.{rules, ◌≡◌, ◌∙◌, ◌<◌, refl, List, [], get_or, take_all, map, ap, sym, subst, FitsSigned, arith, pos, All, false, ℕ}
 use Rattle.std.proofs.lemmas.Int.{to_z-of_z}
 use Rattle.std.proofs.lemmas.List.Elements.{All-more}
 use mir.Syntax.{w128}
 use Rattle.spd_model.specs.Lawful.{IsLawful}
 use Rattle.spd_model.specs.States.{sizes, states, state_count, at}
 use Rattle.spd_plain.specs.declared.ranges.Bounds.{Bounds}
-use Rattle.spd_plain.specs.Bounds.{range_of, IsSmall}
+use Rattle.spd_plain.specs.Bounds.{range_of}
 use Rattle.spd_plain.proofs.StateOrder.{length-states}
 use Rattle.spd_plain.proofs.OneVariable.{some_states}
 use Rattle.spd_plain.proofs.SweepLaws.{length-ranges, all_small, has_gap_is, state_of_residual_is}

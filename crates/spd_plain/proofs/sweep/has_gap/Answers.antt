@@ -1,4 +1,4 @@
-use Rattle.std.proofs.Common.{rules, ◌≡◌, ◌∙◌, ◌-ℤ◌, ◌||◌, ap, sym, FitsSigned, arith}
+use Rattle.std.proofs.Common.{rules, ◌∙◌, ◌-ℤ◌, ◌||◌, ap, sym, FitsSigned, arith}
 use Rattle.std.specs.Ordering.{int_eq}
 use Rattle.std.proofs.lemmas.Int.{ints, to_z-of_z}
 use mir.Syntax.{w128}

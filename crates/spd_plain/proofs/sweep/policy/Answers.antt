@@ -1,4 +1,4 @@
-use Rattle.std.proofs.Common.{rules, ◌≡◌, ◌∙◌, List, [], length, map, ap, sym, subst, arith, ℕ}
+use Rattle.std.proofs.Common.{◌∙◌, List, [], map, sym, subst, ℕ}
 use Rattle.spd_scaled.specs.Scaled.{floor_div}
 use Rattle.spd_model.specs.Lawful.{IsLawful}
 use Rattle.spd_model.specs.Numbers.{greatest, first_place}

@@ -1,4 +1,4 @@
-use Rattle.std.proofs.Common.{rules, ◌≡◌, ◌∙◌, ◌<◌, ◌≤◌, refl, List, [], length, get_or, map, ap, sym, subst, FitsSigned, arith, pos, ℕ, if◌then◌else◌}
+use Rattle.std.proofs.Common.{rules, ◌≡◌, ◌∙◌, ◌<◌, refl, List, [], length, get_or, map, ap, sym, subst, FitsSigned, arith, pos, ℕ, if◌then◌else◌}
 use Rattle.std.proofs.lemmas.Int.{to_z-of_z}
 use mir.Syntax.{w128}
 use Rattle.std.specs.Ordering.{int_eq}
@@ -7,9 +7,9 @@ use Rattle.spd_model.specs.Turns.{place_of}
 use Rattle.spd_model.specs.Numbers.{greatest, first_place}
 use Rattle.spd_plain.specs.declared.outlook.Outlook.{Outlook}
 use Rattle.spd_model.specs.Lawful.{IsLawful}
-use Rattle.spd_model.specs.States.{sizes, states, state_count, at}
+use Rattle.spd_model.specs.States.{sizes, states, at}
 use Rattle.spd_plain.specs.declared.ranges.Bounds.{Bounds}
-use Rattle.spd_plain.specs.Bounds.{range_of, IsSmall}
+use Rattle.spd_plain.specs.Bounds.{range_of}
 use Rattle.spd_plain.specs.Outlooks.{AreOutlooks, return_by, rounding_of}
 use Rattle.spd_plain.proofs.SweepLaws.{length-ranges, all_small, above_here, placed, place_is}
 use Rattle.spd_plain.proofs.Rows.{length-rows, row_are, action_at}

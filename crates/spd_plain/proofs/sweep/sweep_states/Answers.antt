@@ -1,14 +1,12 @@
-use Rattle.std.proofs.Common.{rules, ◌≡◌, ◌∙◌, List, length, get_or, take, map, ap, sym, subst, FitsSigned, arith, pos, []}
-use Rattle.std.proofs.lemmas.Int.{ints, to_z-of_z}
+use Rattle.std.proofs.Common.{rules, ◌∙◌, get_or, map, sym, subst, FitsSigned, pos, []}
+use Rattle.std.proofs.lemmas.Int.{to_z-of_z}
 use mir.Syntax.{w128}
-use Rattle.spd_model.specs.Process.{Process}
 use Rattle.spd_model.specs.Lawful.{IsLawful}
 use Rattle.spd_model.specs.States.{sizes, states, at}
 use Rattle.spd_scaled.specs.Scaled.{floor_div, ceil_div}
 use Rattle.spd_model.specs.Numbers.{greatest}
-use Rattle.spd_plain.specs.declared.outlook.Outlook.{Outlook}
 use Rattle.spd_plain.specs.Outlooks.{AreOutlooks, return_by}
-use Rattle.spd_plain.specs.Bounds.{range_of, IsSmall}
+use Rattle.spd_plain.specs.Bounds.{range_of}
 use Rattle.spd_plain.proofs.Best.{greatest_more}
 use Rattle.spd_plain.proofs.Rows.{range_at, gap_at, row_are, value_near, states_near, bounds_small, range_is, gap_is, table_more}
 use Rattle.spd_plain.proofs.sweep.sweep_states.Goals as goal

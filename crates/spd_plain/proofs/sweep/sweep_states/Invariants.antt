@@ -1,10 +1,6 @@
 use Rattle.std.proofs.Common.{◌≡◌, map, fold, take, pos}
 use Rattle.std.specs.Int.{int_max}
-use Rattle.spd_model.specs.Process.{Process}
 use Rattle.spd_model.specs.States.{sizes, states, at}
-use Rattle.spd_model.specs.Backup.{best_low, best_high}
-use Rattle.spd_model.specs.Ranges.{Range}
-use Rattle.spd_model.specs.Turns.{gap_above, gap_below}
 use Rattle.spd_plain.specs.Bounds.{range_of}
 use Rattle.spd_plain.proofs.Rows.{range_at, gap_at}
 use Rattle.spd_plain.proofs.sweep.sweep_states.Given as goal

@@ -1,10 +1,9 @@
-use Rattle.std.proofs.Common.{rules, ◌≡◌, ◌∙◌, ◌^◌, pos, List, length, get_or, ap, sym, subst, arith, FitsSigned, slice_index}
+use Rattle.std.proofs.Common.{rules, ◌∙◌, ◌^◌, pos, List, get_or, ap, sym, subst, arith, FitsSigned}
 use Rattle.std.proofs.lemmas.Int.{to_z-of_z}
 use Rattle.std.proofs.lemmas.List.Elements.{All-contains}
 use mir.Syntax.{w128}
 use Rattle.spd_scaled.specs.Scaled.{IsWithin}
 use Rattle.spd_model.specs.declared.tree.Tree.{Tree}
-use Rattle.spd_model.specs.States.{state_count, sizes}
 use Rattle.spd_model.specs.Lawful.{IsLawful, IsAction, IsTable}
 use Rattle.spd_plain.proofs.OneVariable.{few_states, state_count_is}
 use Rattle.spd_plain.proofs.TreeValues.{value_within}

@@ -1,14 +1,14 @@
-use Rattle.std.proofs.Common.{◌≡◌, ◌∙◌, ℕ, ◌<◌, ◌≤◌, List, length, get_or, map, find, ap, sym, subst, not, nat_le, unsigned_abs, arith}
+use Rattle.std.proofs.Common.{◌≡◌, ◌∙◌, ℕ, ◌<◌, ◌≤◌, List, length, get_or, find, ap, sym, subst, not, arith}
 use Rattle.std.specs.List.{enumerate_from}
 use Rattle.std.specs.Option.{option_map}
 use Rattle.std.specs.Ordering.{int_eq}
 use Rattle.std.proofs.lemmas.List.FromFn.{length-enumerate_from}
 use Rattle.spd_model.specs.declared.process.Action.{Action}
 use Rattle.spd_model.specs.Process.{Process}
-use Rattle.spd_model.specs.Chances.{Sum, Reward, one, reward_limit}
-use Rattle.spd_plain.specs.Faults.{sum_record, reward_record}
+use Rattle.spd_model.specs.Chances.{Sum, one}
+use Rattle.spd_plain.specs.Faults.{sum_record}
 use Rattle.spd_plain.proofs.Finds.{find_flat_some, find_flat_more, find_flat_none, is_some-option_map}
-use Rattle.spd_plain.proofs.WrongSums.{sums_after, rewards_after, numbered, wrong_sum_is}
+use Rattle.spd_plain.proofs.WrongSums.{sums_after, numbered, wrong_sum_is}
 use Rattle.spd_plain.proofs.validity.first_wrong_sum.Goals as goal
 
 pub returns-then-is_some : goal.returns-then-is_some

@@ -6,7 +6,6 @@ use Rattle.spd_model.specs.declared.tree.Tree.{Tree}
 use Rattle.spd_model.specs.Process.{Process}
 use Rattle.spd_model.specs.Trees.{value_of}
 use Rattle.spd_model.specs.Numbers.{total}
-use Rattle.spd_scaled.proofs.Magnitude.{fits_within, IsWithin-+ℤ, IsWithin-neg_ℤ}
 use Rattle.spd_plain.proofs.validity.reward.Goals as goal
 
 pub returns : goal.returns

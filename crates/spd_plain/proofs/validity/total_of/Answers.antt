@@ -1,8 +1,7 @@
-use Rattle.std.proofs.Common.{rules, ◌^◌, ◌∙◌, ap, sym, subst, FitsSigned, arith, suc, add-one, All}
+use Rattle.std.proofs.Common.{rules, ◌^◌, ◌∙◌, ap, sym, subst, FitsSigned, arith, suc, add-one}
 use Rattle.std.proofs.lemmas.Int.{to_z-of_z}
 use mir.Syntax.{w128}
 use Rattle.spd_scaled.specs.Scaled.{IsWithin}
-use Rattle.spd_model.specs.declared.tree.Tree.{Tree}
 use Rattle.spd_model.specs.Trees.{value_of}
 use Rattle.spd_model.specs.Lawful.{IsReward}
 use Rattle.spd_plain.proofs.TreeValues.{value_within}
@@ -33,6 +32,6 @@ loop-tree-preserved c =
     let fits = sum_fits (suc c.loop-tree.tree-index) _ (omega arith) (rw add-one at within) in
     record {
       sum = simp to_z-of_z (total_more (λ tree. value_of m tree s s) c.args.trees.now c.loop-tree.tree-index tree _ _ c.loop-tree-test.true c.loop-tree.invariant.sum
-      (c.value-sum.ensures ∙ ap (λ tree. value_of m tree s s) c.tree-item.is));
+          (c.value-sum.ensures ∙ ap (λ tree. value_of m tree s s) c.tree-item.is));
       within = simp to_z-of_z within;
     }
