@@ -4,6 +4,10 @@ mod file;
 mod lexer;
 mod trees;
 mod unread;
+mod words;
+
 pub(crate) use file::read_small;
 pub(crate) use unread::Unread;
-mod words;
+
+#[cfg(test)]
+mod tests;
