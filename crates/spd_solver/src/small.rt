@@ -4,7 +4,11 @@ mod file;
 mod lexer;
 mod trees;
 mod unread;
+mod words;
+
 pub use file::law_one_model;
 pub(crate) use file::read_small;
 pub(crate) use unread::Unread;
-mod words;
+
+#[cfg(test)]
+mod tests;
