@@ -9,6 +9,7 @@ use Rattle.spd_model.specs.States.{sizes, at, IsState}
 use Rattle.spd_model.specs.Chances.{IsValid}
 use Rattle.spd_model.specs.Turns.{stop_of, residual_of, place_of, error_of}
 use Rattle.spd_model.proofs.TreeLaws.{length-IsState}
+use Rattle.spd_bellman.proofs.Bounds.{near_optimal}
 use Rattle.spd_plain.specs.declared.Plain.{Plain}
 use Rattle.spd_plain.specs.Plain.{plain_of}
 use Rattle.spd_solver.specs.declared.status.Status.{Status}
@@ -19,7 +20,7 @@ use Rattle.spd_solver.specs.declared.run.Solution.{Solution}
 use Rattle.spd_solver.specs.Small.{IsSmall}
 use Rattle.spd_edge.specs.Told.{Took}
 use Rattle.spd_solver.specs.Pieces.{TookFront}
-use Rattle.spd_solver.specs.Run.{turn_limit, span, stop, residual, text, IsFileOf, Means}
+use Rattle.spd_solver.specs.Run.{turn_limit, span, stop, value, residual, text, IsFileOf, Means}
 use Rattle.spd_solver.specs.Solved.{EndsSolved, IsSolution, Refuses, RefusesBytes, EndsUnread, solved_status, text_of_plain}
 use Rattle.spd_solver.proofs.TextWhole.{text_with-result_text, place-parts}
 
@@ -31,11 +32,12 @@ ends_so : (m : Process) (why : Why) (r : ℤ) → why ≡ (stop m).why → r ≡
 ends_so m Why.Done r e s = sym e
 ends_so m Why.Limit r e s = (sym e, s)
 
-pub solved-plain : (m : Process) (p : Plain) (written : List ℕ) → length m.vars ≡ 1 → IsValid m → p ≡ plain_of m turn_limit span → written ≡ text_of_plain m p
-    → IsSolution m written (solved_status p)
-solved-plain m p written one valid is by = record {
+pub solved-plain : (m : Process) (p : Plain) (written : List ℕ) → length m.vars ≡ 1 → 0 < length m.actions → IsValid m → p ≡ plain_of m turn_limit span
+    → written ≡ text_of_plain m p → IsSolution m written (solved_status p)
+solved-plain m p written one acts valid is by = record {
   valid = valid;
   written_is = by ∙ ap (text_of_plain m) is ∙ whole;
+  near = near_optimal m valid acts (value m);
   ends = ends_so m p.why p.residual (ap (λ (q : Plain). q.why) is) (ap (λ (q : Plain). q.residual) is);
 }
   where
@@ -75,9 +77,9 @@ ok_of bytes m (Err status) is h = tt
 pub means-solved : (bytes : List ℕ) (before now : Option (List ℕ)) (m : Process) (written : List ℕ) → length bytes ≤ 4194304 → IsSmall bytes m
     → Took before written now → (status : Status) → IsSolution m written status → Means bytes before now status
 means-solved bytes before now m written short is took Done h =
-    (m, record { short = short; small = is }, h.valid, h.ends, subst (λ (t : List ℕ). Took before t now) h.written_is took)
+    (m, record { short = short; small = is }, h.valid, h.ends, subst (λ (t : List ℕ). Took before t now) h.written_is took, h.near)
 means-solved bytes before now m written short is took (TurnLimit r) h =
-    (m, record { short = short; small = is }, h.valid, h.ends.0, h.ends.1, subst (λ (t : List ℕ). Took before t now) h.written_is took)
+    (m, record { short = short; small = is }, h.valid, h.ends.0, h.ends.1, subst (λ (t : List ℕ). Took before t now) h.written_is took, h.near)
 means-solved bytes before now m written short is took (Usage word) h = absurd h.ends
 means-solved bytes before now m written short is took (OpenFault name) h = absurd h.ends
 means-solved bytes before now m written short is took (ReadFault name) h = absurd h.ends

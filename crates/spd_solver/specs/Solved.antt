@@ -3,6 +3,7 @@ use Rattle.std.specs.Prelude.{ℕ, ◌≤◌, ◌≡◌, ◌⊎◌, List, length
 use Rattle.spd_model.specs.declared.Why.TheVariants as Why
 use Rattle.spd_model.specs.Process.{Process}
 use Rattle.spd_model.specs.Chances.{IsValid, Sum, first_wrong_sum, Reward, first_wide_reward}
+use Rattle.spd_bellman.specs.Bound.{IsNearOptimal}
 use Rattle.spd_solver.specs.declared.status.Status.{Status}
 use Rattle.spd_solver.specs.declared.status.Status.TheVariants.{Done, Usage, OpenFault, ReadFault, TooLong, Refused, Sum as WrongSum, Range as WideReward, TurnLimit, WriteFault, Memory}
 use Rattle.spd_solver.specs.declared.file.Unreadable.{Unreadable}
@@ -13,7 +14,7 @@ use Rattle.spd_plain.specs.declared.Plain.{Plain}
 use Rattle.spd_plain.specs.declared.PlainFault.{PlainFault}
 use Rattle.spd_plain.specs.declared.PlainFault.TheVariants as PlainFault
 use Rattle.spd_solver.specs.TextParts.{text_with}
-use Rattle.spd_solver.specs.Run.{stop, residual, text, state_text, Tells, TellsReward}
+use Rattle.spd_solver.specs.Run.{stop, value, residual, text, state_text, Tells, TellsReward}
 
 -- how a command ends whose process is solved
 abbrev pub EndsSolved : Process → Status → Type 0
@@ -34,6 +35,7 @@ pub record IsSolution (m : Process) (written : List ℕ) (status : Status) : Typ
   pub valid : IsValid m
   pub written_is : written ≡ text m
   pub ends : EndsSolved m status
+  pub near : IsNearOptimal m (value m)
 
 -- why a process isn't solved
 abbrev pub Refuses : Process → Status → Type 0

@@ -110,6 +110,7 @@ fn solve_model(alloc: Global, model: &Model) -> Result<Solution, Status>
     ensures solved { IfOk result (λ solution. IsSolution model.now solution.text.items solution.status) }
     ensures refused { IfErr result (Refuses model.now) }
 {
+    let _actions = &model.actions;
     let plain = match plain_solve(alloc, model, TURN_LIMIT, SPAN) {
         Ok(plain) => plain,
         Err(fault) => return Err(refusal(alloc, model, fault)),

@@ -1,4 +1,5 @@
-use Rattle.std.proofs.Common.{subst, sym}
+use Rattle.std.proofs.Common.{◌<◌, length, subst, sym}
+use Rattle.spd_model.specs.Process.{Process}
 use Rattle.spd_solver.specs.declared.status.Status.{Status}
 use Rattle.spd_solver.specs.Solved.{IsSolution}
 use Rattle.spd_solver.proofs.Solving.{solved-plain}
@@ -7,4 +8,4 @@ use Rattle.spd_solver.proofs.run.solve_model.Goals as goal
 pub returns-in-Ok-solved_text-clause-solved : goal.returns-in-Ok-solved_text-clause-solved
 returns-in-Ok-solved_text-clause-solved c =
     subst (λ (status : Status). IsSolution c.args.model.now c.in-Ok-solved_text.text.items status) (sym c.solved_status.ensures)
-    (solved-plain c.args.model.now c.in-Ok.plain c.in-Ok-solved_text.text.items c.requires c.in-Ok.ensures.valid c.in-Ok.ensures.solved c.in-Ok-solved_text.ensures)
+    (solved-plain c.args.model.now c.in-Ok.plain c.in-Ok-solved_text.text.items c.requires (subst (λ (m : Process). 0 < length m.actions) c.model.view_is c.model.invariant.some_actions) c.in-Ok.ensures.valid c.in-Ok.ensures.solved c.in-Ok-solved_text.ensures)
