@@ -18,3 +18,4 @@ pub mod SweepLaws
 pub mod Runs
 pub mod Valid
 pub mod Shapes
+pub mod Invalid

@@ -60,14 +60,14 @@ one_entry : {X : Type 0} (x : X) (k : ℕ) (d : X) → k < length (x ∷ []) →
 one_entry x zero d near = refl
 one_entry x (suc k) d near = absurd (omega arith)
 
-All-one : {X : Type 0} (P : X → Type 0) (x : X) → P x → All P (x ∷ [])
+pub All-one : {X : Type 0} (P : X → Type 0) (x : X) → P x → All P (x ∷ [])
 All-one P x p = λ k d near. let e : x ≡ get_or (x ∷ []) k d = one_entry x k d near in subst P e p
 
 All-each : {X Y : Type 0} (P : Y → Type 0) (f : X → List Y) (xs : List X) → ((x : X) → All P (f x)) → All P (flat_map f xs)
 All-each P f [] each = λ k d near. absurd (omega arith)
 All-each P f (x ∷ xs) each = All-append P (f x) (flat_map f xs) (each x) (All-each P f xs each)
 
-all_states : (sizes : List ℕ) → All (IsState sizes) (states sizes)
+pub all_states : (sizes : List ℕ) → All (IsState sizes) (states sizes)
 all_states sizes = λ k d near.
     subst (IsState sizes) (get_or_default (states sizes) k [] d near) (IsState-get_or sizes k (omega (arith, near, length-states sizes)))
 

@@ -2,7 +2,7 @@
 use Rattle.std.specs.Prelude.{ℕ, ◌≡◌, length, ℤ, Some, None, MatchResult, Result}
 use Rattle.spd_model.specs.Process.{Process}
 use Rattle.spd_model.specs.States.{sizes, table_of, at, state_count, IsState}
-use Rattle.spd_model.specs.Chances.{first_wrong_sum, first_wide_reward}
+use Rattle.spd_model.specs.Chances.{IsValid, first_wrong_sum, first_wide_reward}
 use Rattle.spd_model.specs.Backup.{policy_of}
 use Rattle.spd_model.specs.Turns.{Stop, residual_of, place_of, error_of, stop_of}
 use Rattle.spd_plain.specs.declared.solve.Plain.{Plain}
@@ -50,6 +50,12 @@ pub record IsShaped (m : Process) (p : Plain) : Type 0 where
   pub value : length p.value ≡ state_count (sizes m)
   pub policy : length p.policy ≡ state_count (sizes m)
   pub place : IsState (sizes m) p.place
+
+-- a fault but want of memory is of a model that isn't valid
+abbrev pub IsInvalid : Process → PlainFault → Type 0
+IsInvalid m (Sum action var state sum) = IsValid m → ⊥
+IsInvalid m (Range action state value) = IsValid m → ⊥
+IsInvalid m Memory = Unit {0}
 
 -- the state of a fault is a state
 abbrev pub IsPlaced : Process → PlainFault → Type 0

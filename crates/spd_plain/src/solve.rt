@@ -7,7 +7,7 @@ ghost use Rattle.spd_model.specs.States.{sizes, at};
 ghost use Rattle.spd_model.specs.Turns.{stops_at, error_of as error_of_residual, stop_of};
 ghost use Rattle.spd_plain.specs.Outlooks.{outlooks_of, value_limit};
 ghost use Rattle.spd_plain.specs.Sweeps.{CanSweep, IsSweep};
-ghost use Rattle.spd_plain.specs.Plain.{plain_of, stop_record, Cause, IsShaped, IsPlaced};
+ghost use Rattle.spd_plain.specs.Plain.{plain_of, stop_record, Cause, IsShaped, IsPlaced, IsInvalid};
 
 use crate::outlook::{Outlook, tabulate};
 use crate::ranges::merge_ranges;
@@ -194,6 +194,7 @@ pub fn plain_solve(
     ensures cause { Cause model.now result }
     ensures shaped { IfOk result (IsShaped model.now) }
     ensures placed { IfErr result (IsPlaced model.now) }
+    ensures invalid { IfErr result (IsInvalid model.now) }
 {
     let _vars = &model.vars;
     if let Some(wrong) = first_wrong_sum(model) {
