@@ -1,5 +1,5 @@
 -- From what value iteration came to, to the solution of a process.
-use Rattle.std.proofs.Common.{◌≡◌, ℕ, List, length, ℤ, ◌≤◌, ◌<◌, Option, Result, Ok, Err, IfOk, IfErr, IfSome, Some, None, ◌≢◌, refl, sym, ap, subst, ◌∙◌}
+use Rattle.std.proofs.Common.{◌≡◌, ℕ, List, [], length, ℤ, ◌≤◌, ◌<◌, Option, Result, Ok, Err, IfOk, IfErr, IfSome, inl, inr, unwrap_or, Some, None, ◌≢◌, refl, sym, ap, subst, ◌∙◌}
 use Rattle.std.proofs.Math.ListN.{length-map}
 use Rattle.spd_model.specs.declared.process.Var.{Var}
 use Rattle.spd_model.specs.declared.Why.{Why}
@@ -11,7 +11,9 @@ use Rattle.spd_model.specs.Turns.{stop_of, residual_of, place_of, error_of}
 use Rattle.spd_model.proofs.TreeLaws.{length-IsState}
 use Rattle.spd_bellman.proofs.Bounds.{near_optimal}
 use Rattle.spd_plain.specs.declared.Plain.{Plain}
-use Rattle.spd_plain.specs.Plain.{plain_of}
+use Rattle.spd_plain.specs.declared.PlainFault.{PlainFault}
+use Rattle.spd_plain.specs.declared.PlainFault.TheVariants as PlainFault
+use Rattle.spd_plain.specs.Plain.{plain_of, FaultCause, IsInvalid}
 use Rattle.spd_solver.specs.declared.status.Status.{Status}
 use Rattle.spd_solver.specs.declared.status.Status.TheVariants.{Done, Usage, OpenFault, ReadFault, TooLong, Refused, Sum as WrongSum, Range as WideReward, TurnLimit, WriteFault, Memory}
 use Rattle.spd_solver.specs.declared.file.Unreadable.{Unreadable}
@@ -20,8 +22,9 @@ use Rattle.spd_solver.specs.declared.run.Solution.{Solution}
 use Rattle.spd_solver.specs.Small.{IsSmall}
 use Rattle.spd_edge.specs.Told.{Took}
 use Rattle.spd_solver.specs.Pieces.{TookFront}
-use Rattle.spd_solver.specs.Run.{turn_limit, span, stop, value, residual, text, IsFileOf, Means}
-use Rattle.spd_solver.specs.Solved.{EndsSolved, IsSolution, Refuses, RefusesBytes, EndsUnread, solved_status, text_of_plain}
+use Rattle.spd_solver.specs.Run.{turn_limit, span, stop, value, residual, text, IsFileOf, IsFinished, Means}
+use Rattle.spd_solver.specs.Solved.{EndsSolved, IsSolution, Refuses, RefusesAs, RefusesBytes, EndsUnread, solved_status, text_of_plain}
+use Rattle.spd_solver.proofs.SmallReadLaws.{one_process}
 use Rattle.spd_solver.proofs.TextWhole.{text_with-result_text, place-parts}
 
 -- a state has a value for each variable
@@ -59,7 +62,7 @@ refuses-bytes bytes m is (ReadFault name) h = h
 refuses-bytes bytes m is (TooLong name) h = h
 refuses-bytes bytes m is Refused h = absurd h
 refuses-bytes bytes m is (WrongSum action var state sum) h = (m, is, h)
-refuses-bytes bytes m is (WideReward action state value) h = (m, is, h)
+refuses-bytes bytes m is (WideReward action state reward) h = (m, is, h)
 refuses-bytes bytes m is (TurnLimit r) h = h
 refuses-bytes bytes m is WriteFault h = h
 refuses-bytes bytes m is Memory h = tt
@@ -86,7 +89,7 @@ means-solved bytes before now m written short is took (ReadFault name) h = absur
 means-solved bytes before now m written short is took (TooLong name) h = absurd h.ends
 means-solved bytes before now m written short is took Refused h = absurd h.ends
 means-solved bytes before now m written short is took (WrongSum action var state sum) h = absurd h.ends
-means-solved bytes before now m written short is took (WideReward action state value) h = absurd h.ends
+means-solved bytes before now m written short is took (WideReward action state reward) h = absurd h.ends
 means-solved bytes before now m written short is took WriteFault h = absurd h.ends
 means-solved bytes before now m written short is took Memory h = absurd h.ends
 
@@ -94,7 +97,7 @@ means-solved bytes before now m written short is took Memory h = absurd h.ends
 pub means-refused : (bytes : List ℕ) (told : Option (List ℕ)) → length bytes ≤ 4194304 → (status : Status) → RefusesBytes bytes status → Means bytes told told status
 means-refused bytes told short Refused h = (short, h, refl)
 means-refused bytes told short (WrongSum action var state sum) h = (h.0, record { short = short; small = h.1 }, h.2.0, h.2.1, h.2.2, refl)
-means-refused bytes told short (WideReward action state value) h = (h.0, record { short = short; small = h.1 }, h.2.0, h.2.1, h.2.2, h.2.3, refl)
+means-refused bytes told short (WideReward action state reward) h = (h.0, record { short = short; small = h.1 }, h.2.0, h.2.1, h.2.2, h.2.3, refl)
 means-refused bytes told short Memory h = refl
 means-refused bytes told short Done h = absurd h
 means-refused bytes told short (TurnLimit r) h = absurd h
@@ -116,7 +119,7 @@ means-unread bytes told why name long (TurnLimit r) h = absurd h
 means-unread bytes told why name long (Usage word) h = absurd h
 means-unread bytes told why name long Refused h = absurd h
 means-unread bytes told why name long (WrongSum action var state sum) h = absurd h
-means-unread bytes told why name long (WideReward action state value) h = absurd h
+means-unread bytes told why name long (WideReward action state reward) h = absurd h
 means-unread bytes told why name long WriteFault h = absurd h
 
 held_some : (o : Option (List ℕ)) (bytes : List ℕ) (P : List ℕ → Type 0) → IfSome o (λ held. bytes ≡ held) → P bytes → IfSome o P
@@ -137,3 +140,68 @@ means-cut bytes before now m written status short is h front =
 -- a name that wasn't given is as it was
 pub other_name : (named : Result (List ℕ) ℕ) (name other : List ℕ) → named ≡ Ok name → named ≢ Ok other → other ≢ name
 other_name named name other is not same = not (is ∙ ap Ok (sym same))
+
+-- a file that is refused is of no valid process
+pub finished-refused : (bytes : List ℕ) (m : Process) → IsSmall bytes m → IsValid m → (status : Status) → RefusesBytes bytes status → IsFinished status
+finished-refused bytes m is valid Refused h = h m is
+finished-refused bytes m is valid (WrongSum action var state sum) h = h.2.3 (subst IsValid (one_process bytes m h.0 is h.1) valid)
+finished-refused bytes m is valid (WideReward action state reward) h = h.2.4 (subst IsValid (one_process bytes m h.0 is h.1) valid)
+finished-refused bytes m is valid Memory h = tt
+finished-refused bytes m is valid Done h = tt
+finished-refused bytes m is valid (TurnLimit r) h = tt
+finished-refused bytes m is valid (Usage word) h = h
+finished-refused bytes m is valid (OpenFault name) h = tt
+finished-refused bytes m is valid (ReadFault name) h = tt
+finished-refused bytes m is valid (TooLong name) h = h
+finished-refused bytes m is valid WriteFault h = tt
+
+pub finished-unread : (why : Unreadable) (name : List ℕ) (status : Status) → (why ≡ Unreadable.TooLong → ⊥) → EndsUnread why name status → IsFinished status
+finished-unread why name Memory long h = tt
+finished-unread why name (OpenFault n) long h = tt
+finished-unread why name (ReadFault n) long h = tt
+finished-unread why name (TooLong n) long h = long h.0
+finished-unread why name Done long h = tt
+finished-unread why name (TurnLimit r) long h = tt
+finished-unread why name (Usage word) long h = h
+finished-unread why name Refused long h = h
+finished-unread why name (WrongSum action var state sum) long h = h
+finished-unread why name (WideReward action state reward) long h = h
+finished-unread why name WriteFault long h = tt
+
+pub finished-solved : (m : Process) (written : List ℕ) (status : Status) → IsSolution m written status → IsFinished status
+finished-solved m written Done h = tt
+finished-solved m written (TurnLimit r) h = tt
+finished-solved m written WriteFault h = tt
+finished-solved m written (OpenFault name) h = tt
+finished-solved m written (ReadFault name) h = tt
+finished-solved m written Memory h = tt
+finished-solved m written (Usage word) h = h.ends
+finished-solved m written (TooLong name) h = h.ends
+finished-solved m written Refused h = h.ends
+finished-solved m written (WrongSum action var state sum) h = h.ends
+finished-solved m written (WideReward action state reward) h = h.ends
+
+-- the status of a fault tells its cause
+pub refuses-as : (m : Process) (fault : PlainFault) (status : Status) → FaultCause m fault → IsInvalid m fault → RefusesAs m fault status → Refuses m status
+refuses-as m (PlainFault.Sum a i s x) status cause invalid (inl is) =
+    subst (Refuses m) (sym is) (_, cause, record { action_is = refl; var_is = refl; state_is = refl; sum_is = refl }, invalid)
+refuses-as m (PlainFault.Sum a i s x) status cause invalid (inr is) = subst (Refuses m) (sym is) tt
+refuses-as m (PlainFault.Range a s x) status cause invalid (inl is) =
+    subst (Refuses m) (sym is) (_, cause.0, cause.1, record { action_is = refl; state_is = refl; value_is = refl }, invalid)
+refuses-as m (PlainFault.Range a s x) status cause invalid (inr is) = subst (Refuses m) (sym is) tt
+refuses-as m PlainFault.Memory status cause invalid is = subst (Refuses m) (sym is) tt
+
+name_of : Result (List ℕ) ℕ → List ℕ
+name_of (Ok name) = name
+name_of (Err word) = []
+
+held_bytes : (o : Option (List ℕ)) (read bytes : List ℕ) → IfSome o (λ held. read ≡ held) → o ≡ Some bytes → read ≡ bytes
+held_bytes None read bytes held is = cc
+held_bytes (Some b) read bytes held is = held ∙ ap (λ o. unwrap_or o []) is
+
+-- the bytes that were read are those that the place holds under the name
+pub read_bytes : (named : Result (List ℕ) ℕ) (name given : List ℕ) (holds : List ℕ → Option (List ℕ)) (read bytes : List ℕ)
+    → named ≡ Ok name → named ≡ Ok given → IfSome (holds given) (λ held. read ≡ held) → holds name ≡ Some bytes → read ≡ bytes
+unfolding name_of
+read_bytes named name given holds read bytes asked is held tells =
+    held_bytes (holds given) read bytes held (ap holds (ap name_of (sym is ∙ asked)) ∙ tells)

@@ -104,3 +104,17 @@ ReadsCalmly (Usage word) = Unit {0}
 ReadsCalmly (OpenFault name) = ⊥
 ReadsCalmly (ReadFault name) = ⊥
 ReadsCalmly Memory = ⊥
+
+-- The command ends with the whole result, or for a fault of the outside or want of memory.
+abbrev pub IsFinished : Status → Type 0
+IsFinished Done = Unit {0}
+IsFinished (TurnLimit r) = Unit {0}
+IsFinished WriteFault = Unit {0}
+IsFinished (OpenFault name) = Unit {0}
+IsFinished (ReadFault name) = Unit {0}
+IsFinished Memory = Unit {0}
+IsFinished (Usage word) = ⊥
+IsFinished (TooLong name) = ⊥
+IsFinished Refused = ⊥
+IsFinished (WrongSum action var state sum) = ⊥
+IsFinished (WideReward action state value) = ⊥

@@ -39,9 +39,10 @@ pub record IsSolution (m : Process) (written : List ℕ) (status : Status) : Typ
 
 -- why a process isn't solved
 abbrev pub Refuses : Process → Status → Type 0
-Refuses m (WrongSum action var state sum) = (x : Sum) × (first_wrong_sum m ≡ Some x) × Tells m x action var state sum
+Refuses m (WrongSum action var state sum) =
+    (x : Sum) × (first_wrong_sum m ≡ Some x) × Tells m x action var state sum × (IsValid m → ⊥)
 Refuses m (WideReward action state value) =
-    (x : Reward) × (first_wrong_sum m ≡ None) × (first_wide_reward m ≡ Some x) × TellsReward m x action state value
+    (x : Reward) × (first_wrong_sum m ≡ None) × (first_wide_reward m ≡ Some x) × TellsReward m x action state value × (IsValid m → ⊥)
 Refuses m Memory = Unit {0}
 Refuses m Done = ⊥
 Refuses m (TurnLimit r) = ⊥

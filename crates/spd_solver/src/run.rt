@@ -1,9 +1,10 @@
 //! The top call: from the words of a command to the text of a result.
-ghost use Rattle.std.specs.Prelude.{◌≡◌, ◌≢◌, ◌↔◌, ◌≤◌, ℕ, List, Option, true, false, length, pos, IfOk, IfErr, IfSome, Ok, Err};
+ghost use Rattle.std.specs.Prelude.{◌≡◌, ◌≢◌, ◌↔◌, ◌≤◌, ℕ, List, Option, true, false, length, pos, IfOk, IfErr, IfSome, Some, Ok, Err};
 ghost use Rattle.spd_edge.specs.Counts.{Rose};
 ghost use Rattle.spd_edge.specs.Names.{NoneFalls};
 ghost use Rattle.spd_solver.specs.Words.{named_file as named_file_of};
-ghost use Rattle.spd_solver.specs.Run.{Means, ReadsCalmly, Writes};
+ghost use Rattle.spd_solver.specs.Run.{IsFileOf, IsFinished, Means, ReadsCalmly, Writes};
+ghost use Rattle.spd_model.specs.Chances.{IsValid};
 ghost use Rattle.spd_solver.specs.Small.{IsSmall};
 ghost use Rattle.spd_solver.specs.Solved.{IsSolution, Refuses, RefusesAs, RefusesBytes, EndsUnread, solved_status as solved_status_of, text_of_plain};
 ghost use Rattle.spd_plain.specs.Plain.{IsPlaced, IsShaped};
@@ -152,6 +153,10 @@ pub fn solve_run<P: Place, K: Sink>(
     // What each status says of the file's bytes, and of what the output took.
     ensures means { IfOk (named_file_of words.now) (λ name. IfSome (P.holds_in place.old name) (λ bytes.
         Means bytes (K.taken out.old) (K.taken out.new) result)) }
+
+    // The file of a valid process is solved, unless the outside fails or memory runs out.
+    ensures complete { (name bytes : List ℕ) (m : Process) → named_file_of words.now ≡ Ok name → P.holds_in place.old name ≡ Some bytes →
+        IsFileOf bytes m → IsValid m → IsFinished result }
 
     // The faults of the outside come only with their counts.
     ensures usage { (word : ℕ) → (result ≡ Status.Usage word) ↔ (named_file_of words.now ≡ Err word) }

@@ -7,7 +7,7 @@ use Rattle.spd_solver.specs.Small.{IsSmall}
 use Rattle.spd_solver.specs.Pieces.{TookFront}
 use Rattle.spd_edge.specs.Told.{Took}
 use Rattle.spd_solver.specs.declared.status.Status.TheVariants.{WriteFault}
-use Rattle.spd_solver.proofs.Solving.{of_file, means-solved, means-refused, means-cut, other_name}
+use Rattle.spd_solver.proofs.Solving.{of_file, means-solved, means-refused, means-cut, other_name, read_bytes, finished-refused}
 use Rattle.spd_solver.proofs.run.solve_run.Goals as goal
 
 pub returns-in-Ok-write_all_of-clause-means : goal.returns-in-Ok-write_all_of-clause-means
@@ -51,3 +51,11 @@ returns-clause-means g c =
     let refused : RefusesBytes bytes c.in-Err-solve_bytes.status = subst (λ (b : List ℕ). RefusesBytes b c.in-Err-solve_bytes.status) c.deref.ensures.value c.in-Err-solve_bytes.ensures.refused in
     of_file (named_file c.args.words.now) c.in-Ok.name.now (g.P.Place.holds_in c.args.place.now) bytes (λ b. Means b told told c.in-Err-solve_bytes.status)
     c.in-Ok.ensures c.in-Ok-read_file.ensures.held (means-refused bytes told c.in-Ok-read_file.ensures.short c.in-Err-solve_bytes.status refused)
+
+pub returns-clause-complete : goal.returns-clause-complete
+returns-clause-complete g c = λ name bytes m asked tells file valid.
+    let same : c.deref.result.now ≡ bytes =
+    c.deref.ensures.value ∙ read_bytes (named_file c.args.words.now) name c.in-Ok.name.now (g.P.Place.holds_in c.args.place.now) c.in-Ok-read_file.bytes.items bytes
+    asked c.in-Ok.ensures c.in-Ok-read_file.ensures.held tells in
+    finished-refused bytes m file.small valid c.in-Err-solve_bytes.status
+    (subst (λ (b : List ℕ). RefusesBytes b c.in-Err-solve_bytes.status) same c.in-Err-solve_bytes.ensures.refused)
