@@ -1,6 +1,15 @@
 //! The table machine: a table of nodes that several seats fill, one atomic step at a time.
+//!
+//! The machine is plain data, and an event is one atomic step of one seat. It says which steps the
+//! running table may take, and proves what holds between any two of them, whatever their order.
 #![tactic(auto)]
 
+mod event;
 mod key;
+mod mind;
+mod table;
 
+pub use event::Event;
 pub use key::{Entry, Key};
+pub use mind::{Call, Known, Last, Mind};
+pub use table::{Core, Words};
