@@ -1,2 +1,0 @@
-use Rattle.std.proofs.Common.{◌≡◌, refl}
-use Rattle.spd_cons_core.specs.Invariants.{IsSound}
