@@ -1,12 +1,13 @@
 -- What holds of a seat goes on holding while other seats fill the table.
 use Rattle.std.proofs.Common.{◌≡◌, ◌≢◌, ℕ, ◌+◌, ◌<◌, ◌≤◌, Bool, true, false, List, Option, Some, None, take, refl, sym, ap, ◌∙◌, subst, arith}
+use Rattle.std.specs.List.{Contains}
 use Rattle.spd_cons_core.specs.declared.key.Entry.{Entry}
 use Rattle.spd_cons_core.specs.declared.key.Key.{Key}
 use Rattle.spd_cons_core.specs.declared.mind.Known.{Known}
 use Rattle.spd_cons_core.specs.declared.mind.Call.{Call}
 use Rattle.spd_cons_core.specs.Views.{Seat, Machine}
 use Rattle.spd_cons_core.specs.Spelling.{words_of, start_of, IsKey}
-use Rattle.spd_cons_core.specs.Seats.{bucket, bucket_count, Names, entry_words}
+use Rattle.spd_cons_core.specs.Seats.{bucket, bucket_count, Names, entry_words, parts_known}
 use Rattle.spd_cons_core.specs.Invariants.{IsClaimed, IsKnown, IsSpare, IsPassed, IsOther, IsSearch, IsSeat}
 
 -- the table after an event has all that it had
@@ -43,6 +44,12 @@ grow_known c d g seat k was =
       parts = was.parts;
     }
 
+-- and of a seat that knows what another one knows
+pub known_moved : (c d : Machine) → Grows c d → (seat w : Seat) → w.knows ≡ seat.knows → ((k : Known) → Contains seat.knows k → IsKnown c seat k) → (k : Known) → Contains w.knows k → IsKnown d w k
+known_moved c d g seat w same was k at =
+    let k' = grow_known c d g seat k (was k (subst (λ l. Contains l k) same at)) in
+    record { published = k'.published; words = k'.words; in_range = k'.in_range; parts = ap (λ l. parts_known l k.key) same ∙ k'.parts }
+
 pub grow_other : (c d : Machine) → Grows c d → (key : Key) (b : ℕ) → IsOther c key b → IsOther d key b
 grow_other c d g key b was = record {
   entry = was.entry;
@@ -57,19 +64,25 @@ grow_passed c d g key at was =
     subst (λ (n : ℕ). (b : ℕ) → b < n → IsPassed (start_of (words_of key) n) at b → IsOther d key b) (sym g.count)
     (λ b within passed. grow_other c d g key b (was b within passed))
 
-pub grow_search : (c d : Machine) → Grows c d → (seat : Seat) → LeavesSpare c d seat → (call : Call) → IsSearch c seat call → IsSearch d seat call
-grow_search c d g seat leaves call was =
+-- the search of a seat that knows what it knew, with another spare
+pub search_moved : (c d : Machine) → Grows c d → (seat w : Seat) → w.knows ≡ seat.knows → (call : Call) → IsSearch c seat call
+    → ((e : Entry) → w.spare ≡ Some e → take call.stored (entry_words d e.0) ≡ take call.stored (words_of call.key)) → (w.spare ≡ None → call.stored ≡ 0) → IsSearch d w call
+search_moved c d g seat w same call was stored none_stored =
     let at = was.at_bucket in
     let count = g.count in record {
       in_range = was.in_range;
-      parts = was.parts;
+      parts = ap (λ l. parts_known l call.key) same ∙ was.parts;
       at_bucket = omega arith;
       passed = grow_passed c d g call.key call.at was.passed;
       found = λ e is. let f = was.found e is in (g.names call.at e.0 f.0, ap (take call.right) (g.words call.at e.0 f.0) ∙ f.1);
       none_right = was.none_right;
-      stored = λ e is. ap (take call.stored) (leaves.words e is) ∙ was.stored e is;
-      none_stored = was.none_stored;
+      stored = stored;
+      none_stored = none_stored;
     }
+
+pub grow_search : (c d : Machine) → Grows c d → (seat : Seat) → LeavesSpare c d seat → (call : Call) → IsSearch c seat call → IsSearch d seat call
+grow_search c d g seat leaves call was =
+    search_moved c d g seat seat refl call was (λ e is. ap (take call.stored) (leaves.words e is) ∙ was.stored e is) was.none_stored
 
 pub grow_seat : (c d : Machine) → Grows c d → (seat : Seat) → LeavesSpare c d seat → IsSeat c seat → IsSeat d seat
 grow_seat c d g seat leaves was =

@@ -2,5 +2,8 @@ pub mod Writes
 pub mod Growth
 pub mod Knowledge
 pub mod Starts
+pub mod Fives
 pub mod Quiet
 pub mod LoadsBucket
+pub mod LoadsContent
+pub mod Claims

@@ -14,15 +14,12 @@ use Rattle.spd_cons_core.specs.Spelling.{IsKey, words_of, start_of}
 use Rattle.spd_cons_core.specs.Seats.{seat_at, with_seat, bucket, bucket_count, entry, entry_words, same_key, parts_known}
 use Rattle.spd_cons_core.specs.Events.{new_call, call_for, can_load_bucket, after_bucket, load_bucket}
 use Rattle.spd_cons_core.specs.Invariants.{IsSized, IsKnown, IsSearch, IsSeat, IsSound, Keeps}
-use Rattle.spd_cons_core.proofs.Quiet.{keeps_same, IsQuiet, IsInformed, quiet_keeps}
+use Rattle.spd_cons_core.proofs.Quiet.{keeps_same, none≢some, some_same, call_keeps, end_keeps}
 use Rattle.spd_cons_core.proofs.Starts.{start_below, start_passes_none}
 
 -- there are buckets
 pub some_buckets : (c : Machine) → IsSized c → 0 < bucket_count c
 some_buckets c sized = let low = sized.limit_low in let more = sized.buckets.1 in omega arith
-
-pub none≢some : {A : Type 0} (x : A) → None ≡ Some x → ⊥
-none≢some x e = cc
 
 -- a new call meets what a search needs
 new_search : (c : Machine) (seat : Seat) (key : Key) → IsSized c → IsKey key → parts_known seat.knows key ≡ true → IsSearch c seat (new_call (bucket_count c) key)
@@ -38,7 +35,7 @@ new_search c seat key sized fits known = record {
 }
 
 -- the search with its bucket seen to be empty
-emptied : (c : Machine) (seat : Seat) (call : Call) → IsSearch c seat call → IsSearch c (record seat { call = Some (record call { empty = true }) }) (record call { empty = true })
+emptied : (c : Machine) (seat : Seat) (call : Call) → IsSearch c seat call → IsSearch c seat (record call { empty = true })
 emptied c seat call was = record {
   in_range = was.in_range;
   parts = was.parts;
@@ -51,22 +48,19 @@ emptied c seat call was = record {
 }
 
 -- the search with the entry that its bucket names
-found : (c : Machine) (seat : Seat) (call : Call) → IsSearch c seat call → call.found ≡ None → bucket c call.at ≢ 0
-    → IsSearch c (record seat { call = Some (record call { found = Some (entry (bucket c call.at - 1)) }) }) (record call { found = Some (entry (bucket c call.at - 1)) })
-found c seat call was none full = record {
+pub found_entry : (c : Machine) (seat : Seat) (call : Call) (empty : Bool) → IsSearch c seat call → call.right ≡ 0 → bucket c call.at ≢ 0
+    → IsSearch c seat (record call { found = Some (entry (bucket c call.at - 1)); empty = empty })
+found_entry c seat call empty was none full = record {
   in_range = was.in_range;
   parts = was.parts;
   at_bucket = was.at_bucket;
   passed = was.passed;
   found = λ e is. let same : bucket c call.at - 1 ≡ e.0 = ap (λ (x : Entry). x.0) (some_same (entry (bucket c call.at - 1)) e is) in
-      (omega arith, ap (λ n. take n (entry_words c e.0)) (was.none_right none) ∙ ap (λ n. take n (words_of call.key)) (sym (was.none_right none)));
+      (omega arith, ap (λ n. take n (entry_words c e.0)) none ∙ ap (λ n. take n (words_of call.key)) (sym none));
   none_right = λ is. absurd (none≢some (entry (bucket c call.at - 1)) (sym is));
   stored = was.stored;
   none_stored = was.none_stored;
 }
-  where
-    some_same : {A : Type 0} (x y : A) → Some x ≡ Some y → x ≡ y
-    some_same x y e = cc
 
 -- the search in which a seat that can load a bucket stands
 record IsReady (c : Machine) (seat : Seat) (call : Call) : Type 0 where
@@ -87,34 +81,14 @@ ready c seat key sized fits was can = by_call seat.call refl (and_parts seat.liv
         let free = (and_parts (same_key call.key key) _ looks).1 in
         record { search = was call is; none_found = none_is call.found (and_parts (is_none call.found) (not call.empty) free).0 }
 
-no_search : (c : Machine) (seat : Seat) (call : Call) → None ≡ Some call → IsSearch c seat call
-no_search c seat call e = absurd (none≢some call e)
-
-same_call : (c : Machine) (seat : Seat) (new : Call) → IsSearch c seat new → (call : Call) → Some new ≡ Some call → IsSearch c seat call
-same_call c seat new was call e = subst (IsSearch c seat) (cc) was
-
 loaded : (c : Machine) (i : ℕ) (call : Call) → IsSized c → IsSound c → (seat_at c i).live ≡ true → IsReady c (seat_at c i) call → Keeps c (with_seat c i (after_bucket call (bucket c call.at) (seat_at c i)))
 loaded c i call sized sound live ready =
-    let was = sound.seats i live in
     cond_both (eqb (bucket c call.at) 0) _ _ (λ (w : Seat). Keeps c (with_seat c i w))
     (λ _. cond_both (is_none (seat_at c i).spare && (seat_at c i).ended) _ _ (λ (w : Seat). Keeps c (with_seat c i w))
-        (λ _. quiet_keeps c i (record (seat_at c i) { call = None; last = Full }) sized sound live (quiet None Full)
-            record { known = known_as was (record (seat_at c i) { call = None; last = Full }) refl; own_known = was.own_known; search = no_search c (record (seat_at c i) { call = None; last = Full }) })
-        (λ _. searching (record call { empty = true }) (emptied c (seat_at c i) call ready.search)))
-    (λ full. searching (record call { found = Some (entry (bucket c call.at - 1)) }) (found c (seat_at c i) call ready.search ready.none_found (eqb-false (bucket c call.at) 0 full)))
-  where
-    quiet : (o : Option Call) (last : Last) → IsQuiet (seat_at c i) (record (seat_at c i) { call = o; last = last })
-    quiet o last = record { live = live; published = refl; spare = refl; unpublished = refl; stands = refl; splits = refl; ended = refl }
-
-    known_as : IsSeat c (seat_at c i) → (w : Seat) → w.knows ≡ (seat_at c i).knows → (k : Known) → Contains w.knows k → IsKnown c w k
-    known_as was w same k at = let k' = was.known k (subst (λ l. Contains l k) same at) in
-        record { published = k'.published; words = k'.words; in_range = k'.in_range; parts = subst (λ l. parts_known l k.key ≡ true) (sym same) k'.parts }
-
-    searching : (new : Call) → IsSearch c (record (seat_at c i) { call = Some new }) new → Keeps c (with_seat c i (record (seat_at c i) { call = Some new }))
-    searching new is =
-        let was = sound.seats i live in
-        quiet_keeps c i (record (seat_at c i) { call = Some new }) sized sound live (quiet (Some new) (seat_at c i).last)
-        record { known = known_as was (record (seat_at c i) { call = Some new }) refl; own_known = was.own_known; search = same_call c (record (seat_at c i) { call = Some new }) new is }
+        (λ _. end_keeps c i Full sized sound live)
+        (λ _. call_keeps c i (record call { empty = true }) sized sound live (emptied c (seat_at c i) call ready.search)))
+    (λ full. call_keeps c i (record call { found = Some (entry (bucket c call.at - 1)) }) sized sound live
+        (found_entry c (seat_at c i) call call.empty ready.search (ready.search.none_right ready.none_found) (eqb-false (bucket c call.at) 0 full)))
 
 -- a bucket that is loaded keeps the invariant
 pub load_bucket_keeps : (c : Machine) (i : ℕ) (key : Key) → IsSized c → IsSound c → IsKey key → Keeps c (load_bucket c i key)
