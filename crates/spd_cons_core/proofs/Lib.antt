@@ -7,3 +7,4 @@ pub mod Quiet
 pub mod LoadsBucket
 pub mod LoadsContent
 pub mod Claims
+pub mod StoresContent
