@@ -8,3 +8,4 @@ pub mod LoadsBucket
 pub mod LoadsContent
 pub mod Claims
 pub mod StoresContent
+pub mod Exchanges
