@@ -9,3 +9,5 @@ pub mod LoadsContent
 pub mod Claims
 pub mod StoresContent
 pub mod Exchanges
+pub mod Splits
+pub mod Joins
