@@ -5,7 +5,9 @@ use Rattle.std.proofs.Common.{bit_xor, lit<}
 use Rattle.std.specs.Int.{w64, rotate_left}
 use Rattle.std.proofs.lemmas.Bool.{cases_lt, cases_eq, cases_order, cond_both, ltb-true, ltb-false}
 use Rattle.std.proofs.Math.Nat.{div-lt_iff_lt-mul, mod-lt, mul_comm, mul-lt-mul_of_pos_right}
-use Rattle.spd_cons_core.specs.Spelling.{mixed, start_of}
+use Rattle.std.proofs.Math.Nat.{mul-div-mul_right}
+use Rattle.std.proofs.lemmas.Nat.{pow-add, pow_pos}
+use Rattle.spd_cons_core.specs.Spelling.{mixed, hash_of, start_of}
 use Rattle.spd_cons_core.specs.Events.{next_bucket}
 use Rattle.spd_cons_core.specs.Invariants.{IsPassed}
 
@@ -25,6 +27,14 @@ below_scaled hash count wide positive some low =
 pub start_below : (words : List ℕ) (count : ℕ) → 0 < count → start_of words count < count
 unfolding start_of
 start_below words count some = below_scaled (fold mixed 0 words) count (2 ^ 64) (lit< tt) some (hash_below words 0 (lit< tt))
+
+-- of 2 ^ bits buckets, the start bucket is the first bits of the hash
+pub start_shift : (words : List ℕ) (bits : ℕ) → bits ≤ 64 → hash_of words / 2 ^ (64 - bits) ≡ start_of words (2 ^ bits)
+unfolding start_of
+start_shift words bits few =
+    let all : 64 - bits + bits ≡ 64 = omega arith in
+    let whole : 2 ^ (64 - bits) * 2 ^ bits ≡ 2 ^ 64 = sym (pow-add 2 (64 - bits) bits) ∙ ap (λ n. 2 ^ n) all in
+    sym (ap (λ n. hash_of words * 2 ^ bits / n) (sym whole) ∙ mul-div-mul_right (hash_of words) (2 ^ (64 - bits)) (pow_pos bits))
 
 -- nothing is passed at the start
 pub start_passes_none : (start b : ℕ) → IsPassed start start b → ⊥

@@ -31,7 +31,11 @@ IsKey (Act action) = action < 2 ^ 32
 unfoldable pub mixed : ℕ → ℕ → ℕ
 mixed hash word = (rotate_left w64 (bit_xor hash word) 29 * 0x9E3779B97F4A7C15) % 2 ^ 64
 
+-- the hash of a key's words
+abbrev pub hash_of : List ℕ → ℕ
+hash_of words = fold mixed 0 words
+
 -- the bucket at which the search for a key starts, of so many buckets: as far into the buckets as
 -- the hash of its words is into the numbers of 64 bits. For 2 ^ b buckets it is the hash's first b bits.
 unfoldable pub start_of : List ℕ → ℕ → ℕ
-start_of words count = fold mixed 0 words * count / 2 ^ 64
+start_of words count = hash_of words * count / 2 ^ 64

@@ -7,9 +7,15 @@
 mod event;
 mod key;
 mod mind;
+mod seat;
+mod spelling;
 mod table;
 
 pub use event::Event;
 pub use key::{Entry, Key};
 pub use mind::{Call, Known, Last, Mind};
+pub use spelling::{start_bucket, words_of};
 pub use table::{Core, Words};
+
+/// Want of memory.
+pub type Memory = std::alloc::AllocError;

@@ -1,5 +1,6 @@
 //! What a seat of the table knows, and where it is in its call.
 use crate::key::{Entry, Key};
+use std::alloc::Global;
 use std::marker::Model;
 
 /// An entry that a seat knows, with its key.
@@ -75,4 +76,27 @@ impl Model for Mind {
         call = m.call;
         last = m.last;
     } };
+}
+
+impl Mind {
+    ghost use Rattle.std.specs.Prelude.{◌≡◌};
+    ghost use Rattle.spd_cons_core.specs.Seats.{spent};
+
+    /// A seat that isn't live.
+    pub(crate) fn spent(alloc: Global) -> Self
+        ensures { result ≡ spent }
+    {
+        Mind {
+            live: false,
+            knows: Vec::new(alloc),
+            published: Vec::new(alloc),
+            spare: None,
+            unpublished: 0,
+            stands: 0,
+            splits: 0,
+            ended: false,
+            call: None,
+            last: Last::Nothing,
+        }
+    }
 }
