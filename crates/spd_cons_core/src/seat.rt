@@ -29,6 +29,31 @@ impl Mind {
         }
     }
 
+    /// Whether the seat can load the bucket of its call for this key, or begin that call.
+    pub(crate) fn can_load_bucket(&self, key: &Key) -> bool
+        ensures { result ≡ can_load_bucket key.now self.now }
+    {
+        self.live
+            && match self.call {
+                Some(call) => call.key == *key && call.found.is_none() && !call.empty,
+                None => self.knows_parts(key),
+            }
+    }
+
+    /// Whether the seat can claim an entry.
+    pub(crate) fn can_claim(&self) -> bool
+        ensures { result ≡ can_claim self.now }
+    {
+        self.live && self.call.is_some_and(|call| call.empty) && self.spare.is_none() && !self.ended
+    }
+
+    /// Whether the seat can be split.
+    pub(crate) fn can_split(&self) -> bool
+        ensures { result ≡ can_split self.now }
+    {
+        self.live && self.call.is_none() && self.splits > 0
+    }
+
     /// Learns an entry with its key, unless it knows that entry.
     fn learn(&mut self, known: Known) -> Result<(), Memory>
         ensures { OnOk result (self.new ≡ record self.old { knows = learned self.old.knows known }) }
