@@ -11,3 +11,4 @@ pub mod StoresContent
 pub mod Exchanges
 pub mod Splits
 pub mod Joins
+pub mod Bounds

@@ -9,6 +9,7 @@ mod key;
 mod mind;
 mod seat;
 mod spelling;
+mod steps;
 mod table;
 
 pub use event::Event;
