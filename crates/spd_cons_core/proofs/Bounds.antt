@@ -57,3 +57,15 @@ claims_below c sound =
     let a = sum_by-le-sum_by (share_of stands_at_end) (share_of shares) c.seats share_le in
     let bound = sound.claims_bound in
     let all = sound.all_seats in omega arith
+
+-- a call's bucket is one of the buckets
+pub call_within : (c : Machine) → IsSound c → (i : ℕ) (seat : Seat) (call : Call) → seat ≡ seat_at c i → seat.live ≡ true → seat.call ≡ Some call → call.at < bucket_count c
+call_within c sound i seat call same live is =
+    ((sound.seats i (ap (λ (s : Seat). s.live) (sym same) ∙ live)).search call (ap (λ (s : Seat). s.call) (sym same) ∙ is)).at_bucket
+
+-- an entry that was found is one of the entries
+pub found_within : (c : Machine) → IsSized c → IsSound c → (i : ℕ) (seat : Seat) (call : Call) (e : Entry) → seat ≡ seat_at c i → seat.live ≡ true → seat.call ≡ Some call → call.found ≡ Some e → e.0 < length c.entries
+found_within c sized sound i seat call e same live is found =
+    let search = (sound.seats i (ap (λ (s : Seat). s.live) (sym same) ∙ live)).search call (ap (λ (s : Seat). s.call) (sym same) ∙ is) in
+    let below = (sound.only_claimed call.at e.0 (search.found e found).0).below_end in
+    let n = sized.entries in omega arith

@@ -12,3 +12,4 @@ pub mod Exchanges
 pub mod Splits
 pub mod Joins
 pub mod Bounds
+pub mod Taken

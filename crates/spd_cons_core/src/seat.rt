@@ -5,11 +5,11 @@ use crate::spelling::words_of;
 use crate::Memory;
 use std::alloc::Global;
 
-ghost use Rattle.std.specs.Prelude.{◌≡◌, ◌+◌, ◌^◌, ◌<◌, ◌≤◌, IfOk, OnOk, slice_index};
+ghost use Rattle.std.specs.Prelude.{◌≡◌, ◌+◌, ◌^◌, ◌<◌, ◌≤◌, IfOk, OnOk, slice_index, ◌&&◌, is_none};
 ghost use Rattle.std.specs.List.{fold};
 ghost use Rattle.spd_cons_core.specs.Spelling.{words_of};
 ghost use Rattle.spd_cons_core.specs.Seats.{entry, is_known, parts_known, learned};
-ghost use Rattle.spd_cons_core.specs.Events.{can_load_bucket, after_bucket, can_claim, after_claim, after_exchange, next_bucket, after_content, can_split, after_split, split_off, after_join};
+ghost use Rattle.spd_cons_core.specs.Events.{can_load_bucket, after_bucket, can_claim, after_claim, can_store, can_exchange, can_compare, after_exchange, next_bucket, after_content, can_split, after_split, split_off, after_join};
 
 impl Mind {
     /// Whether the seat knows an entry.
@@ -45,6 +45,34 @@ impl Mind {
         ensures { result ≡ can_claim self.now }
     {
         self.live && self.call.is_some_and(|call| call.empty) && self.spare.is_none() && !self.ended
+    }
+
+    /// Whether the seat, in this call, can store this word of the key in its spare.
+    pub(crate) fn can_store(&self, word: u8, call: &Call) -> bool
+        ensures { result ≡ can_store word call.now self.now }
+    {
+        self.live && call.empty && word == call.stored && word < 5
+    }
+
+    /// Whether the seat, in this call, can exchange the bucket.
+    pub(crate) fn can_exchange(&self, call: &Call) -> bool
+        ensures { result ≡ can_exchange call.now self.now }
+    {
+        self.live && call.empty && call.stored == 5
+    }
+
+    /// Whether the seat, in this call, can compare this word of this entry.
+    pub(crate) fn can_compare(&self, entry: Entry, word: u8, call: &Call) -> bool
+        ensures { result ≡ can_compare entry word call.now self.now }
+    {
+        self.live && call.found.is_some_and(|found| found.0 == entry.0) && word == call.right && word < 5
+    }
+
+    /// Whether two seats are live and in no call.
+    pub(crate) fn can_join(&self, other: &Mind) -> bool
+        ensures { result ≡ ((self.now.live && other.now.live) && (is_none self.now.call && is_none other.now.call)) }
+    {
+        self.live && other.live && self.call.is_none() && other.call.is_none()
     }
 
     /// Whether the seat can be split.

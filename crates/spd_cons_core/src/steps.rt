@@ -7,10 +7,17 @@ use crate::table::Core;
 use crate::Memory;
 use std::alloc::Global;
 
-ghost use Rattle.std.specs.Prelude.{◌≡◌, ℕ, ◌+◌, ◌^◌, ◌<◌, ◌≤◌, ◌↔◌, IfOk, OnOk, IfSome, IsSome, length};
-ghost use Rattle.spd_cons_core.specs.Seats.{seat_at, bucket, bucket_count};
-ghost use Rattle.spd_cons_core.specs.Events.{new_call, load_bucket, claim, store_content, exchange_bucket, load_content, split, join};
+ghost use Rattle.std.specs.Prelude.{◌≡◌, ℕ, ◌+◌, ◌^◌, ◌<◌, ◌≤◌, ◌↔◌, IfOk, OnOk, IfSome, IsSome, length, ◌==◌, if◌then◌else◌, slice_index};
+ghost use Rattle.spd_cons_core.specs.Seats.{seat_at, with_seat, spent, bucket, bucket_count, entry_words};
+ghost use Rattle.spd_cons_core.specs.Events.{call_for, load_bucket, claim, store_content, exchange_bucket, load_content, split, after_join, join};
 ghost use Rattle.spd_cons_core.specs.Invariants.{IsSized, IsSound};
+
+/// What an exchange leaves in a bucket where it found this number: only an empty one takes the entry.
+fn exchanged(found: u64, spare: Entry) -> u64
+    ensures { result ≡ (if found == 0 then spare.0 + 1 else found) }
+{
+    if found == 0 { u64::from(spare.0) + 1 } else { found }
+}
 
 impl Core {
     /// The power of two that the number of buckets is.
@@ -31,19 +38,68 @@ impl Core {
         self.seats.get(seat)
     }
 
-    /// A call for a key, at the start of its search.
-    fn new_call(&self, key: Key) -> Call
-        requires { IsSized self.now }
-        ensures { result ≡ new_call (bucket_count self.now) key }
+    /// What stands in a bucket.
+    fn load(&self, at: u64) -> u64
+        requires sized { IsSized self.now }
+        requires sound { IsSound self.now }
+        requires within { at < bucket_count self.now }
+        ensures value { result ≡ bucket self.now at }
+        ensures small { result ≤ 2 ^ 32 }
     {
-        Call {
+        self.buckets[at as usize]
+    }
+
+    /// A word of an entry.
+    fn load_word(&self, entry: Entry, word: u8) -> u64
+        requires sized { IsSized self.now }
+        requires within { entry.0 < length self.now.entries }
+        requires five { word < 5 }
+        ensures { result ≡ slice_index (entry_words self.now entry.0) word }
+    {
+        let words = self.entries[entry.0 as usize];
+        words.0[word as usize]
+    }
+
+    fn bucket_count(&self) -> u64
+        ensures { result ≡ bucket_count self.now }
+    {
+        self.buckets.len() as u64
+    }
+
+    /// Takes a seat out, which leaves a spent one.
+    fn end_seat(&mut self, alloc: Global, seat: usize) -> Mind
+        requires { seat < length self.old.seats }
+        ensures seat { result ≡ seat_at self.old seat }
+        ensures left { self.new ≡ with_seat self.old seat spent }
+    {
+        std::mem::replace(&mut self.seats[seat], Mind::spent(alloc))
+    }
+
+    /// Lets a seat take over all that another one has.
+    fn take_over(&mut self, seat: usize, other: Mind) -> Result<(), Memory>
+        requires within { seat < length self.old.seats }
+        requires unpublished { (seat_at self.old seat).unpublished + other.unpublished < 2 ^ 32 }
+        requires stands { (seat_at self.old seat).stands + other.stands < 2 ^ 32 }
+        requires splits { (seat_at self.old seat).splits + other.splits < 2 ^ 32 }
+        ensures { OnOk result (self.new ≡ with_seat self.old seat (after_join (seat_at self.old seat) other)) }
+    {
+        self.seats[seat].take_over(other)?;
+        Ok(())
+    }
+
+    /// The call that a seat is in, or else a new one for the key, at the start of its search.
+    fn call_for(&self, mind: &Mind, key: Key) -> Call
+        requires { IsSized self.now }
+        ensures { result ≡ call_for (bucket_count self.now) key mind.now }
+    {
+        mind.call.unwrap_or(Call {
             key,
             at: start_bucket(&key, self.bucket_bits()),
             found: None,
             right: 0,
             empty: false,
             stored: 0,
-        }
+        })
     }
 
     pub(crate) fn load_bucket(&mut self, seat: usize, key: Key)
@@ -57,11 +113,8 @@ impl Core {
         if !mind.can_load_bucket(&key) {
             return;
         }
-        let call = match mind.call {
-            Some(call) => call,
-            None => self.new_call(key),
-        };
-        let loaded = self.buckets[call.at as usize];
+        let call = self.call_for(mind, key);
+        let loaded = self.load(call.at);
         self.seats[seat].see_bucket(call, loaded);
     }
 
@@ -93,7 +146,7 @@ impl Core {
         let (Some(call), Some(spare)) = (mind.call, mind.spare) else {
             return;
         };
-        if !(mind.live && call.empty && word == call.stored && word < 5) {
+        if !mind.can_store(word, &call) {
             return;
         }
         let words = &mut self.entries[spare.0 as usize];
@@ -102,6 +155,7 @@ impl Core {
         mind.call = Some(Call { stored: call.stored + 1, ..call });
     }
 
+    #[tactic(auto, using(crate::proofs::Taken::exchange_taken))]
     pub(crate) fn exchange_bucket(&mut self, seat: usize) -> Result<(), Memory>
         requires sized { IsSized self.old }
         requires sound { IsSound self.old }
@@ -113,16 +167,16 @@ impl Core {
         let (Some(call), Some(spare)) = (mind.call, mind.spare) else {
             return Ok(());
         };
-        if !(mind.live && call.empty && call.stored == 5) {
+        if !mind.can_exchange(&call) {
             return Ok(());
         }
-        let found = self.buckets[call.at as usize];
-        if found == 0 {
-            self.buckets[call.at as usize] = u64::from(spare.0) + 1;
-        }
-        self.seats[seat].see_exchange(call, spare, found)
+        let found = self.load(call.at);
+        self.buckets[call.at as usize] = exchanged(found, spare);
+        self.seats[seat].see_exchange(call, spare, found)?;
+        Ok(())
     }
 
+    #[tactic(auto, using(crate::proofs::Taken::content_taken))]
     pub(crate) fn load_content(&mut self, seat: usize, entry: Entry, word: u8) -> Result<(), Memory>
         requires sized { IsSized self.old }
         requires sound { IsSound self.old }
@@ -134,13 +188,13 @@ impl Core {
         let Some(call) = mind.call else {
             return Ok(());
         };
-        if !(mind.live && call.found.is_some_and(|found| found.0 == entry.0) && word == call.right && word < 5) {
+        if !mind.can_compare(entry, word, &call) {
             return Ok(());
         }
-        let words = self.entries[entry.0 as usize];
-        let loaded = words.0[word as usize];
-        let count = self.buckets.len() as u64;
-        self.seats[seat].see_content(count, entry, call, loaded)
+        let loaded = self.load_word(entry, word);
+        let count = self.bucket_count();
+        self.seats[seat].see_content(count, entry, call, loaded)?;
+        Ok(())
     }
 
     pub(crate) fn split(&mut self, alloc: Global, seat: usize) -> Result<(), Memory>
@@ -167,10 +221,10 @@ impl Core {
         let (Some(first), Some(second)) = (self.seat(seat), self.seat(other)) else {
             return Ok(());
         };
-        if seat == other || !first.live || !second.live || first.call.is_some() || second.call.is_some() {
+        if seat == other || !first.can_join(second) {
             return Ok(());
         }
-        let ended = std::mem::replace(&mut self.seats[other], Mind::spent(alloc));
-        self.seats[seat].take_over(ended)
+        let ended = self.end_seat(alloc, other);
+        self.take_over(seat, ended)
     }
 }
