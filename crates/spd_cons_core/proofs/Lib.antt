@@ -13,3 +13,5 @@ pub mod Splits
 pub mod Joins
 pub mod Bounds
 pub mod Taken
+pub mod Runs
+pub mod Consequences

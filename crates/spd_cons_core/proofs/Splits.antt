@@ -33,7 +33,7 @@ grows_seats c l = record { limit = refl; most = refl; count = refl; claims = ome
 pub leaves_seats : (c : Machine) (l : List Seat) (seat : Seat) → IsSeat c seat → LeavesSpare c (record c { seats = l }) seat
 leaves_seats c l seat was = record { words = λ e is. refl; unpublished = λ e is. (was.spare e is).unpublished }
 
-nothing_contained : {A : Type 0} (x : A) → Contains [] x → ⊥
+pub nothing_contained : {A : Type 0} (x : A) → Contains [] x → ⊥
 nothing_contained x at = omega (arith, at.1)
 
 splits : (c : Machine) (i : ℕ) → IsSized c → IsSound c → (seat_at c i).live ≡ true → 0 < (seat_at c i).splits

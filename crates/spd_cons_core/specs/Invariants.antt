@@ -6,6 +6,8 @@ use Rattle.spd_cons_core.specs.declared.key.Entry.{Entry}
 use Rattle.spd_cons_core.specs.declared.key.Key.{Key}
 use Rattle.spd_cons_core.specs.declared.mind.Known.{Known}
 use Rattle.spd_cons_core.specs.declared.mind.Call.{Call}
+use Rattle.spd_cons_core.specs.declared.event.Event.{Event}
+use Rattle.spd_cons_core.specs.declared.event.Event.TheVariants.{LoadBucket, Claim, StoreContent, ExchangeBucket, LoadContent, Split, Join}
 use Rattle.spd_cons_core.specs.Views.{Seat, Machine}
 use Rattle.spd_cons_core.specs.Spelling.{words_of, start_of, IsKey}
 use Rattle.spd_cons_core.specs.Seats.{seat_at, bucket, bucket_count, Names, entry_words, is_known, parts_known}
@@ -136,6 +138,16 @@ pub record Stays (before after : Machine) : Type 0 where
   pub count : bucket_count after ≡ bucket_count before
   pub buckets : (b : ℕ) → bucket before b ≢ 0 → bucket after b ≡ bucket before b
   pub words : (b e : ℕ) → Names before b e → entry_words after e ≡ entry_words before e
+
+-- the numbers of an event's key are in the ranges of their types
+abbrev pub IsEvent : Event → Type 0
+IsEvent (LoadBucket seat key) = IsKey key
+IsEvent (Claim seat) = Unit {0}
+IsEvent (StoreContent seat word) = Unit {0}
+IsEvent (ExchangeBucket seat) = Unit {0}
+IsEvent (LoadContent seat e word) = Unit {0}
+IsEvent (Split seat) = Unit {0}
+IsEvent (Join seat other) = Unit {0}
 
 -- the machine after an event meets the invariant again, and what was published stays
 pub record Keeps (before after : Machine) : Type 0 where

@@ -15,6 +15,7 @@ mod table;
 pub use event::Event;
 pub use key::{Entry, Key};
 pub use mind::{Call, Known, Last, Mind};
+pub use steps::{run, step};
 pub use spelling::{start_bucket, words_of};
 pub use table::{Core, Words};
 

@@ -1,9 +1,9 @@
 //! How a key is spelled in five words, and where its search starts.
-use crate::key::Key;
+use crate::key::{Entry, Key};
 use crate::table::Words;
 
 ghost use Rattle.std.specs.Prelude.{◌≡◌, ◌*◌, ◌/◌, ◌%◌, ◌^◌, ◌<◌, ◌≤◌};
-ghost use Rattle.spd_cons_core.specs.Spelling.{words_of, low, high, mixed, hash_of, start_of};
+ghost use Rattle.spd_cons_core.specs.Spelling.{words_of, low, high, mixed, hash_of, start_of, IsKey};
 
 /// The golden ratio's 64 bits, by which a multiplicative hash spreads its input (Knuth, The Art of
 /// Computer Programming, volume 3).
@@ -21,12 +21,22 @@ fn halves(n: i128) -> (u64, u64)
     ((bits % (1 << 64)) as u64, (bits / (1 << 64)) as u64)
 }
 
+/// The number of an entry, as a word.
+fn entry_word(entry: Entry) -> u64
+    ensures word { result ≡ entry.0 }
+    ensures in_range { entry.0 < 2 ^ 32 }
+{
+    let Entry(number) = entry;
+    u64::from(number)
+}
+
 /// The five words that spell a key. Different keys have different words.
 pub fn words_of(key: &Key) -> Words
-    ensures { result ≡ words_of key.now }
+    ensures words { result ≡ words_of key.now }
+    ensures in_range { IsKey key.now }
 {
     match *key {
-        Key::Test { level, yes, no } => Words([1 + 16 * u64::from(level), u64::from(yes.0), u64::from(no.0), 0, 0]),
+        Key::Test { level, yes, no } => Words([1 + 16 * u64::from(level), entry_word(yes), entry_word(no), 0, 0]),
         Key::Num(n) => {
             let (low, high) = halves(n);
             Words([2, low, high, 0, 0])
@@ -61,6 +71,7 @@ pub fn start_bucket(key: &Key, bits: u32) -> u64
     requires most_bits { bits ≤ 63 }
     ensures start { result ≡ start_of (words_of key.now) (2 ^ bits) }
     ensures below { result < 2 ^ bits }
+    ensures in_range { IsKey key.now }
 {
     hash_of(&words_of(key)) >> (64 - bits)
 }

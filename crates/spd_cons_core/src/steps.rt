@@ -7,10 +7,11 @@ use crate::table::Core;
 use crate::Memory;
 use std::alloc::Global;
 
-ghost use Rattle.std.specs.Prelude.{◌≡◌, ℕ, ◌+◌, ◌^◌, ◌<◌, ◌≤◌, ◌↔◌, IfOk, OnOk, IfSome, IsSome, length, ◌==◌, if◌then◌else◌, slice_index};
+ghost use Rattle.std.specs.Prelude.{◌≡◌, ℕ, ◌+◌, ◌^◌, ◌<◌, ◌≤◌, ◌↔◌, IfOk, OnOk, IfSome, IsSome, IsTrue, length, ◌==◌, if◌then◌else◌, slice_index};
+ghost use Rattle.spd_cons_core.specs.Spelling.{IsKey};
 ghost use Rattle.spd_cons_core.specs.Seats.{seat_at, with_seat, spent, bucket, bucket_count, entry_words};
-ghost use Rattle.spd_cons_core.specs.Events.{call_for, load_bucket, claim, store_content, exchange_bucket, load_content, split, after_join, join};
-ghost use Rattle.spd_cons_core.specs.Invariants.{IsSized, IsSound};
+ghost use Rattle.spd_cons_core.specs.Events.{can_load_bucket, call_for, load_bucket, claim, store_content, exchange_bucket, load_content, split, after_join, join, step, run};
+ghost use Rattle.spd_cons_core.specs.Invariants.{IsSized, IsSound, Keeps};
 
 /// What an exchange leaves in a bucket where it found this number: only an empty one takes the entry.
 fn exchanged(found: u64, spare: Entry) -> u64
@@ -90,7 +91,8 @@ impl Core {
     /// The call that a seat is in, or else a new one for the key, at the start of its search.
     fn call_for(&self, mind: &Mind, key: Key) -> Call
         requires { IsSized self.now }
-        ensures { result ≡ call_for (bucket_count self.now) key mind.now }
+        ensures call { result ≡ call_for (bucket_count self.now) key mind.now }
+        ensures in_range { IsKey key }
     {
         mind.call.unwrap_or(Call {
             key,
@@ -105,7 +107,8 @@ impl Core {
     pub(crate) fn load_bucket(&mut self, seat: usize, key: Key)
         requires sized { IsSized self.old }
         requires sound { IsSound self.old }
-        ensures { self.new ≡ load_bucket self.old seat key }
+        ensures exact { self.new ≡ load_bucket self.old seat key }
+        ensures in_range { IsTrue (can_load_bucket key (seat_at self.old seat)) → IsKey key }
     {
         let Some(mind) = self.seat(seat) else {
             return;
@@ -227,4 +230,39 @@ impl Core {
         let ended = self.end_seat(alloc, other);
         self.take_over(seat, ended)
     }
+}
+
+/// The machine after an event. An event that its seat can't take changes nothing. The machine is
+/// one that `Core::new` made, after any events.
+pub fn step(alloc: Global, core: Core, event: Event) -> Result<Core, Memory>
+    requires sized { IsSized core }
+    requires sound { IsSound core }
+    ensures exact { IfOk result (λ after. after ≡ step core event) }
+    ensures keeps { IfOk result (λ after. Keeps core after) }
+{
+    let mut core = core;
+    match event {
+        Event::LoadBucket { seat, key } => core.load_bucket(seat as usize, key),
+        Event::Claim { seat } => core.claim(seat as usize),
+        Event::StoreContent { seat, word } => core.store_content(seat as usize, word),
+        Event::ExchangeBucket { seat } => core.exchange_bucket(seat as usize)?,
+        Event::LoadContent { seat, entry, word } => core.load_content(seat as usize, entry, word)?,
+        Event::Split { seat } => core.split(alloc, seat as usize)?,
+        Event::Join { seat, other } => core.join(alloc, seat as usize, other as usize)?,
+    }
+    Ok(core)
+}
+
+/// The machine after a list of events, the first one first.
+pub fn run(alloc: Global, core: Core, events: &[Event]) -> Result<Core, Memory>
+    requires sized { IsSized core }
+    requires sound { IsSound core }
+    ensures exact { IfOk result (λ after. after ≡ run core events.now) }
+    ensures keeps { IfOk result (λ after. Keeps core after) }
+{
+    let mut core = core;
+    for event in events {
+        core = step(alloc, core, *event)?;
+    }
+    Ok(core)
 }

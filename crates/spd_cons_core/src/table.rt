@@ -1,5 +1,7 @@
 //! The state of the machine.
 use crate::mind::Mind;
+use crate::Memory;
+use std::alloc::Global;
 use std::marker::Model;
 
 /// The five words of an entry, which spell its key.
@@ -44,4 +46,37 @@ impl Model for Core {
         entries = c.entries.items;
         seats = c.seats.items;
     } };
+}
+
+impl Core {
+    ghost use Rattle.std.specs.Prelude.{◌≡◌, ℕ, ◌+◌, ◌*◌, ◌≤◌, IfOk};
+    ghost use Rattle.std.specs.Int.{IsNextPowerOfTwo};
+    ghost use Rattle.spd_cons_core.specs.Events.{new_machine};
+    ghost use Rattle.spd_cons_core.specs.Invariants.{IsSized, IsSound};
+
+    /// An empty table for at least `limit` published entries, with one seat of `seats` that may be
+    /// made. The limit is 16 to 8,388,608, and the seats are 1 to 128.
+    pub fn new(alloc: Global, limit: u32, seats: u32) -> Result<Self, Memory>
+        requires limit_low { 16 ≤ limit }
+        requires limit_high { limit ≤ 8388608 }
+        requires seats_low { 1 ≤ seats }
+        requires seats_high { seats ≤ 128 }
+        ensures empty { IfOk result (λ core. (count : ℕ) × IsNextPowerOfTwo (2 * (limit + seats)) count × (core ≡ new_machine limit seats count)) }
+        ensures sized { IfOk result IsSized }
+        ensures sound { IfOk result IsSound }
+    {
+        let count = (2 * (limit + seats)).next_power_of_two() as usize;
+        let buckets = vec![in alloc; 0; count]?;
+        let entries = vec![in alloc; Words([0; 5]); (limit + seats) as usize]?;
+        let mut minds = Vec::with_capacity(alloc, 1)?;
+        minds.push(Mind { live: true, stands: 1, splits: seats - 1, ..Mind::spent(alloc) })?;
+        Ok(Core {
+            limit,
+            most: seats,
+            claims: 0,
+            buckets,
+            entries,
+            seats: minds,
+        })
+    }
 }

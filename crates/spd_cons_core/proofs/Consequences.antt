@@ -1,0 +1,110 @@
+-- What follows from the invariant.
+use Rattle.std.proofs.Common.{◌≡◌, ◌≢◌, ◌⊎◌, ℕ, zero, suc, ◌+◌, ◌-◌, ◌*◌, ◌/◌, ◌%◌, ◌^◌, ◌<◌, ◌≤◌, ℤ, Bool, true, false, cond, eqb, min, List, [], ◌∷◌, length, get_or, set, Option, Some, None, refl, sym, ap, ◌∙◌, subst, inl, inr, ⊎_elim, arith, sum_by, FitsSigned}
+use Rattle.std.specs.List.{All, Contains}
+use Rattle.std.specs.Int.{w128, cast_unsigned}
+use Rattle.std.proofs.lemmas.Bool.{true≢false, cases_eq, cases_lt, cases_Bool}
+use Rattle.std.proofs.lemmas.Int.{to_z-of_z}
+use Rattle.std.proofs.lemmas.Nat.{shr_split}
+use Rattle.std.proofs.lemmas.List.{get_or-set_other, length-set}
+use Rattle.std.proofs.lemmas.List.Elements.{All-from_get_or}
+use Rattle.std.proofs.lemmas.List.Sums.{sum_by-set, sum_by-le, get_or-le-sum_by}
+use Rattle.spd_cons_core.specs.declared.key.Entry.{Entry}
+use Rattle.spd_cons_core.specs.declared.key.Key.{Key}
+use Rattle.spd_cons_core.specs.declared.key.Key.TheVariants.{Test, Num, Pair, Act}
+use Rattle.spd_cons_core.specs.declared.mind.Known.{Known}
+use Rattle.spd_cons_core.specs.Views.{Seat, Machine}
+use Rattle.spd_cons_core.specs.Spelling.{words_of, low, high, IsKey}
+use Rattle.spd_cons_core.specs.Seats.{spent, seat_at, bucket, Names, entry, entry_words}
+use Rattle.spd_cons_core.specs.Invariants.{IsSized, IsSound, total, shares, filled}
+use Rattle.spd_cons_core.proofs.Writes.{set_cases, live_within, share_of, share_live}
+
+-- The words tell keys apart ---------------------------------------------------------------------
+
+halves_same : (m n : ℤ) → FitsSigned w128 m → FitsSigned w128 n → low m ≡ low n → high m ≡ high n → m ≡ n
+halves_same m n fits fits' lows highs =
+    let whole : cast_unsigned w128 m ≡ cast_unsigned w128 n =
+        sym (shr_split (cast_unsigned w128 m) 64) ∙ ((λ x. highs x * 2 ^ 64 + lows x) ∙ shr_split (cast_unsigned w128 n) 64) in
+    sym (to_z-of_z w128 m fits) ∙ (ap (to_z w128) whole ∙ to_z-of_z w128 n fits')
+
+heads : {A : Type 0} (x y : A) (xs ys : List A) → x ∷ xs ≡ y ∷ ys → (x ≡ y) × (xs ≡ ys)
+heads x y xs ys e = (cc, cc)
+
+pub words_tell : (key other : Key) → IsKey key → IsKey other → words_of key ≡ words_of other → key ≡ other
+words_tell (Test l y n) (Test l' y' n') fits fits' same = ?
+words_tell (Test l y n) (Num m) fits fits' same = absurd ?
+words_tell (Test l y n) (Pair a b) fits fits' same = absurd ?
+words_tell (Test l y n) (Act a) fits fits' same = absurd ?
+words_tell (Num m) (Test l y n) fits fits' same = absurd ?
+words_tell (Num m) (Num n) fits fits' same = ?
+words_tell (Num m) (Pair a b) fits fits' same = absurd ?
+words_tell (Num m) (Act a) fits fits' same = absurd ?
+words_tell (Pair a b) (Test l y n) fits fits' same = absurd ?
+words_tell (Pair a b) (Num m) fits fits' same = absurd ?
+words_tell (Pair a b) (Pair a' b') fits fits' same = ?
+words_tell (Pair a b) (Act c) fits fits' same = absurd ?
+words_tell (Act a) (Test l y n) fits fits' same = absurd ?
+words_tell (Act a) (Num m) fits fits' same = absurd ?
+words_tell (Act a) (Pair b c) fits fits' same = absurd ?
+words_tell (Act a) (Act b) fits fits' same = ?
+
+-- What seats know agrees ------------------------------------------------------------------------
+
+pub known_keys : (c : Machine) → IsSound c → (i j : ℕ) (k k' : Known) → (seat_at c i).live ≡ true → (seat_at c j).live ≡ true → Contains (seat_at c i).knows k → Contains (seat_at c j).knows k' → k.entry ≡ k'.entry → k.key ≡ k'.key
+known_keys c sound i j k k' live live' at at' same =
+    let a = (sound.seats i live).known k at in
+    let b = (sound.seats j live').known k' at' in
+    words_tell k.key k'.key a.in_range b.in_range (sym a.words ∙ (ap (λ (e : Entry). entry_words c e.0) same ∙ b.words))
+
+pub known_entries : (c : Machine) → IsSound c → (i j : ℕ) (k k' : Known) → (seat_at c i).live ≡ true → (seat_at c j).live ≡ true → Contains (seat_at c i).knows k → Contains (seat_at c j).knows k' → k.key ≡ k'.key → k.entry ≡ k'.entry
+known_entries c sound i j k k' live live' at at' same =
+    let a = (sound.seats i live).known k at in
+    let b = (sound.seats j live').known k' at' in
+    let place : a.published.0 ≡ b.published.0 = sound.distinct_keys a.published.0 b.published.0 k.entry.0 k'.entry.0 a.published.1 b.published.1 (a.words ∙ (ap words_of same ∙ sym b.words)) in
+    let one = a.published.1 in
+    let two : bucket c a.published.0 ≡ k'.entry.0 + 1 = ap (bucket c) place ∙ b.published.1 in
+    let number : k.entry.0 ≡ k'.entry.0 = omega arith in
+    ap entry number
+
+pub different_keys : (c : Machine) → IsSound c → (a b d e : ℕ) (key : Key) → Names c a d → Names c b e → a ≢ b → entry_words c d ≡ words_of key → entry_words c e ≢ words_of key
+different_keys c sound a b d e key names names' apart is is' = apart (sound.distinct_keys a b d e names names' (is ∙ sym is'))
+
+-- The last seat ---------------------------------------------------------------------------------
+
+-- where one seat has all shares, no other seat is live
+alone : (c : Machine) → IsSound c → (i : ℕ) → (seat_at c i).live ≡ true → shares (seat_at c i) ≡ c.most → (j : ℕ) → j ≢ i → (seat_at c j).live ≡ true → ⊥
+alone c sound i live all j other there =
+    let out = sum_by-set (share_of shares) c.seats i spent spent (live_within c.seats i live) in
+    let mine = share_live shares (seat_at c i) live in
+    let whole = sound.all_seats in
+    let there' : get_or (set c.seats i spent) j spent ≡ seat_at c j = get_or-set_other c.seats i j spent spent other in
+    let within : j < length (set c.seats i spent) = live_within (set c.seats i spent) j (ap (λ (s : Seat). s.live) there' ∙ there) in
+    let part = get_or-le-sum_by (share_of shares) (set c.seats i spent) j spent within in
+    let its = ap (share_of shares) there' ∙ share_live shares (seat_at c j) there in
+    let stands = (sound.seats j there).stands in
+    absurd (omega arith)
+
+-- so a sum over the live seats is that seat's part
+total_alone : (f : Seat → ℕ) (c : Machine) → IsSound c → (i : ℕ) → (seat_at c i).live ≡ true → shares (seat_at c i) ≡ c.most → total f c ≡ f (seat_at c i)
+total_alone f c sound i live all =
+    let within = live_within c.seats i live in
+    let out = sum_by-set (share_of f) c.seats i spent spent within in
+    let mine = share_live f (seat_at c i) live in
+    let none : All (λ s. share_of f s ≤ 0) (set c.seats i spent) = All-from_get_or (λ s. share_of f s ≤ 0) (set c.seats i spent) spent
+        (λ j _. set_cases (λ j s. share_of f s ≤ 0) c.seats i spent spent within (omega arith) (λ j other. not_live (seat_at c j) (cases_Bool (seat_at c j).live) (λ there. alone c sound i live all j other there)) j) in
+    let rest = sum_by-le (share_of f) 0 (set c.seats i spent) none in
+    omega arith
+  where
+    not_live : (s : Seat) → (s.live ≡ true) ⊎ (s.live ≡ false) → (s.live ≡ true → ⊥) → share_of f s ≤ 0
+    not_live s (inl is) no = absurd (no is)
+    not_live s (inr is) no = let z : share_of f s ≡ 0 = ap (λ (b : Bool). cond b (f s) 0) is in omega arith
+
+pub full_table : (c : Machine) → IsSound c → (i : ℕ) → (seat_at c i).live ≡ true → (seat_at c i).ended ≡ true → shares (seat_at c i) ≡ c.most → c.limit < length (seat_at c i).published
+full_table c sound i live ended all =
+    let was = sound.seats i live in
+    let less = was.less_at_end ended in
+    let met = was.end_met ended in
+    let published = total_alone (λ s. length s.published) c sound i live all in
+    let unpublished = total_alone (λ s. s.unpublished) c sound i live all in
+    let counted = sound.all_counted in
+    let listed = sound.all_listed in
+    omega arith
