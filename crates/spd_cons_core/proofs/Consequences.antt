@@ -1,8 +1,8 @@
 -- What follows from the invariant.
-use Rattle.std.proofs.Common.{◌≡◌, ◌≢◌, ◌⊎◌, ℕ, zero, suc, ◌+◌, ◌-◌, ◌*◌, ◌/◌, ◌%◌, ◌^◌, ◌<◌, ◌≤◌, ℤ, Bool, true, false, cond, eqb, min, List, [], ◌∷◌, length, get_or, set, Option, Some, None, refl, sym, ap, ◌∙◌, subst, inl, inr, ⊎_elim, arith, sum_by, FitsSigned}
+use Rattle.std.proofs.Common.{to_z, ◌≡◌, ◌≢◌, ◌⊎◌, ℕ, zero, suc, ◌+◌, ◌-◌, ◌*◌, ◌/◌, ◌%◌, ◌^◌, ◌<◌, ◌≤◌, ℤ, Bool, true, false, cond, eqb, min, List, [], ◌∷◌, length, get_or, set, Option, Some, None, refl, sym, ap, ◌∙◌, subst, inl, inr, ⊎_elim, arith, sum_by, FitsSigned}
 use Rattle.std.specs.List.{All, Contains}
 use Rattle.std.specs.Int.{w128, cast_unsigned}
-use Rattle.std.proofs.lemmas.Bool.{true≢false, cases_eq, cases_lt, cases_Bool}
+use Rattle.std.proofs.lemmas.Bool.{eqb-false, cases_Bool}
 use Rattle.std.proofs.lemmas.Int.{to_z-of_z}
 use Rattle.std.proofs.lemmas.Nat.{shr_split}
 use Rattle.std.proofs.lemmas.List.{get_or-set_other, length-set}
@@ -26,26 +26,31 @@ halves_same m n fits fits' lows highs =
         sym (shr_split (cast_unsigned w128 m) 64) ∙ ((λ x. highs x * 2 ^ 64 + lows x) ∙ shr_split (cast_unsigned w128 n) 64) in
     sym (to_z-of_z w128 m fits) ∙ (ap (to_z w128) whole ∙ to_z-of_z w128 n fits')
 
-heads : {A : Type 0} (x y : A) (xs ys : List A) → x ∷ xs ≡ y ∷ ys → (x ≡ y) × (xs ≡ ys)
-heads x y xs ys e = (cc, cc)
-
 pub words_tell : (key other : Key) → IsKey key → IsKey other → words_of key ≡ words_of other → key ≡ other
-words_tell (Test l y n) (Test l' y' n') fits fits' same = ?
-words_tell (Test l y n) (Num m) fits fits' same = absurd ?
-words_tell (Test l y n) (Pair a b) fits fits' same = absurd ?
-words_tell (Test l y n) (Act a) fits fits' same = absurd ?
-words_tell (Num m) (Test l y n) fits fits' same = absurd ?
-words_tell (Num m) (Num n) fits fits' same = ?
-words_tell (Num m) (Pair a b) fits fits' same = absurd ?
-words_tell (Num m) (Act a) fits fits' same = absurd ?
-words_tell (Pair a b) (Test l y n) fits fits' same = absurd ?
-words_tell (Pair a b) (Num m) fits fits' same = absurd ?
-words_tell (Pair a b) (Pair a' b') fits fits' same = ?
-words_tell (Pair a b) (Act c) fits fits' same = absurd ?
-words_tell (Act a) (Test l y n) fits fits' same = absurd ?
-words_tell (Act a) (Num m) fits fits' same = absurd ?
-words_tell (Act a) (Pair b c) fits fits' same = absurd ?
-words_tell (Act a) (Act b) fits fits' same = ?
+words_tell (Test l y n) (Test l' y' n') fits fits' same =
+    let tag : 1 + 16 * l ≡ 1 + 16 * l' = ap (λ ws. get_or ws 0 0) same in
+    let level : l ≡ l' = omega arith in
+    let on_yes : y.0 ≡ y'.0 = ap (λ ws. get_or ws 1 0) same in
+    let on_no : n.0 ≡ n'.0 = ap (λ ws. get_or ws 2 0) same in
+    (λ x. Test (level x) (entry (on_yes x)) (entry (on_no x)))
+words_tell (Test l y n) (Num m) fits fits' same = let tag : 1 + 16 * l ≡ 2 = ap (λ ws. get_or ws 0 0) same in absurd (omega arith)
+words_tell (Test l y n) (Pair a b) fits fits' same = let tag : 1 + 16 * l ≡ 3 = ap (λ ws. get_or ws 0 0) same in absurd (omega arith)
+words_tell (Test l y n) (Act a) fits fits' same = let tag : 1 + 16 * l ≡ 4 = ap (λ ws. get_or ws 0 0) same in absurd (omega arith)
+words_tell (Num m) (Test l y n) fits fits' same = let tag : 2 ≡ 1 + 16 * l = ap (λ ws. get_or ws 0 0) same in absurd (omega arith)
+words_tell (Num m) (Num n) fits fits' same = ap Num (halves_same m n fits fits' (ap (λ ws. get_or ws 1 0) same) (ap (λ ws. get_or ws 2 0) same))
+words_tell (Num m) (Pair a b) fits fits' same = absurd (eqb-false 2 3 refl (ap (λ ws. get_or ws 0 0) same))
+words_tell (Num m) (Act a) fits fits' same = absurd (eqb-false 2 4 refl (ap (λ ws. get_or ws 0 0) same))
+words_tell (Pair a b) (Test l y n) fits fits' same = let tag : 3 ≡ 1 + 16 * l = ap (λ ws. get_or ws 0 0) same in absurd (omega arith)
+words_tell (Pair a b) (Num m) fits fits' same = absurd (eqb-false 3 2 refl (ap (λ ws. get_or ws 0 0) same))
+words_tell (Pair a b) (Pair a' b') fits fits' same =
+    let first : a ≡ a' = halves_same a a' fits.0 fits'.0 (ap (λ ws. get_or ws 1 0) same) (ap (λ ws. get_or ws 2 0) same) in
+    let second : b ≡ b' = halves_same b b' fits.1 fits'.1 (ap (λ ws. get_or ws 3 0) same) (ap (λ ws. get_or ws 4 0) same) in
+    (λ x. Pair (first x) (second x))
+words_tell (Pair a b) (Act c) fits fits' same = absurd (eqb-false 3 4 refl (ap (λ ws. get_or ws 0 0) same))
+words_tell (Act a) (Test l y n) fits fits' same = let tag : 4 ≡ 1 + 16 * l = ap (λ ws. get_or ws 0 0) same in absurd (omega arith)
+words_tell (Act a) (Num m) fits fits' same = absurd (eqb-false 4 2 refl (ap (λ ws. get_or ws 0 0) same))
+words_tell (Act a) (Pair b c) fits fits' same = absurd (eqb-false 4 3 refl (ap (λ ws. get_or ws 0 0) same))
+words_tell (Act a) (Act b) fits fits' same = ap Act (ap (λ ws. get_or ws 1 0) same)
 
 -- What seats know agrees ------------------------------------------------------------------------
 
@@ -95,8 +100,8 @@ total_alone f c sound i live all =
     omega arith
   where
     not_live : (s : Seat) → (s.live ≡ true) ⊎ (s.live ≡ false) → (s.live ≡ true → ⊥) → share_of f s ≤ 0
-    not_live s (inl is) no = absurd (no is)
-    not_live s (inr is) no = let z : share_of f s ≡ 0 = ap (λ (b : Bool). cond b (f s) 0) is in omega arith
+    not_live s (inl is) never = absurd (never is)
+    not_live s (inr is) never = let z : share_of f s ≡ 0 = ap (λ (b : Bool). cond b (f s) 0) is in omega arith
 
 pub full_table : (c : Machine) → IsSound c → (i : ℕ) → (seat_at c i).live ≡ true → (seat_at c i).ended ≡ true → shares (seat_at c i) ≡ c.most → c.limit < length (seat_at c i).published
 full_table c sound i live ended all =
