@@ -1,8 +1,10 @@
 -- What follows from the invariant.
-use Rattle.std.proofs.Common.{to_z, ◌≡◌, ◌≢◌, ◌⊎◌, ℕ, zero, suc, ◌+◌, ◌-◌, ◌*◌, ◌/◌, ◌%◌, ◌^◌, ◌<◌, ◌≤◌, ℤ, Bool, true, false, cond, eqb, min, List, [], ◌∷◌, length, get_or, set, Option, Some, None, refl, sym, ap, ◌∙◌, subst, inl, inr, ⊎_elim, arith, sum_by, FitsSigned}
+use Rattle.std.proofs.Common.{to_z, ◌↔◌, ◌&&◌, ◌≡◌, ◌≢◌, ◌⊎◌, ℕ, zero, suc, ◌+◌, ◌-◌, ◌*◌, ◌/◌, ◌%◌, ◌^◌, ◌<◌, ◌≤◌, ℤ, Bool, true, false, cond, eqb, min, List, [], ◌∷◌, length, get_or, set, Option, Some, None, refl, sym, ap, ◌∙◌, subst, inl, inr, ⊎_elim, arith, sum_by, FitsSigned}
 use Rattle.std.specs.List.{All, Contains}
 use Rattle.std.specs.Int.{w128, cast_unsigned}
-use Rattle.std.proofs.lemmas.Bool.{eqb-false, cases_Bool}
+use Rattle.std.proofs.lemmas.Bool.{true≢false, eqb-false, eqb-true, eq-eqb, and_from, and_parts, cases_Bool}
+use Rattle.std.proofs.lemmas.Bool.Decides.{Decides-int_eq}
+use Rattle.std.specs.Ordering.{int_eq}
 use Rattle.std.proofs.lemmas.Int.{to_z-of_z}
 use Rattle.std.proofs.lemmas.Nat.{shr_split}
 use Rattle.std.proofs.lemmas.List.{get_or-set_other, length-set}
@@ -14,7 +16,7 @@ use Rattle.spd_cons_core.specs.declared.key.Key.TheVariants.{Test, Num, Pair, Ac
 use Rattle.spd_cons_core.specs.declared.mind.Known.{Known}
 use Rattle.spd_cons_core.specs.Views.{Seat, Machine}
 use Rattle.spd_cons_core.specs.Spelling.{words_of, low, high, IsKey}
-use Rattle.spd_cons_core.specs.Seats.{spent, seat_at, bucket, Names, entry, entry_words}
+use Rattle.spd_cons_core.specs.Seats.{spent, seat_at, bucket, Names, entry, entry_words, same_key}
 use Rattle.spd_cons_core.specs.Invariants.{IsSized, IsSound, total, shares, filled}
 use Rattle.spd_cons_core.proofs.Writes.{set_cases, live_within, share_of, share_live}
 
@@ -89,7 +91,7 @@ alone c sound i live all j other there =
     absurd (omega arith)
 
 -- so a sum over the live seats is that seat's part
-total_alone : (f : Seat → ℕ) (c : Machine) → IsSound c → (i : ℕ) → (seat_at c i).live ≡ true → shares (seat_at c i) ≡ c.most → total f c ≡ f (seat_at c i)
+pub total_alone : (f : Seat → ℕ) (c : Machine) → IsSound c → (i : ℕ) → (seat_at c i).live ≡ true → shares (seat_at c i) ≡ c.most → total f c ≡ f (seat_at c i)
 total_alone f c sound i live all =
     let within = live_within c.seats i live in
     let out = sum_by-set (share_of f) c.seats i spent spent within in
@@ -113,3 +115,42 @@ full_table c sound i live ended all =
     let counted = sound.all_counted in
     let listed = sound.all_listed in
     omega arith
+
+-- The test of two keys decides whether they are equal -------------------------------------------
+
+same_key_self : (key : Key) → same_key key key ≡ true
+same_key_self (Test l y n) = and_from (eqb l l) (eqb y.0 y.0 && eqb n.0 n.0) (eq-eqb l l refl) (and_from (eqb y.0 y.0) (eqb n.0 n.0) (eq-eqb y.0 y.0 refl) (eq-eqb n.0 n.0 refl))
+same_key_self (Num m) = (Decides-int_eq m m).1 refl
+same_key_self (Pair a b) = and_from (int_eq a a) (int_eq b b) ((Decides-int_eq a a).1 refl) ((Decides-int_eq b b).1 refl)
+same_key_self (Act a) = eq-eqb a a refl
+
+same_key_true : (key other : Key) → same_key key other ≡ true → key ≡ other
+same_key_true (Test l y n) (Test l' y' n') is =
+    let parts = and_parts (eqb l l') (eqb y.0 y'.0 && eqb n.0 n'.0) is in
+    let entries = and_parts (eqb y.0 y'.0) (eqb n.0 n'.0) parts.1 in
+    let level : l ≡ l' = eqb-true l l' parts.0 in
+    let on_yes : y.0 ≡ y'.0 = eqb-true y.0 y'.0 entries.0 in
+    let on_no : n.0 ≡ n'.0 = eqb-true n.0 n'.0 entries.1 in
+    (λ x. Test (level x) (entry (on_yes x)) (entry (on_no x)))
+same_key_true (Num m) (Num n) is = ap Num ((Decides-int_eq m n).0 is)
+same_key_true (Pair a b) (Pair a' b') is =
+    let parts = and_parts (int_eq a a') (int_eq b b') is in
+    let first = (Decides-int_eq a a').0 parts.0 in
+    let second = (Decides-int_eq b b').0 parts.1 in
+    (λ x. Pair (first x) (second x))
+same_key_true (Act a) (Act b) is = ap Act (eqb-true a b is)
+same_key_true (Test l y n) (Num m) is = absurd (true≢false (sym is))
+same_key_true (Test l y n) (Pair a b) is = absurd (true≢false (sym is))
+same_key_true (Test l y n) (Act a) is = absurd (true≢false (sym is))
+same_key_true (Num m) (Test l y n) is = absurd (true≢false (sym is))
+same_key_true (Num m) (Pair a b) is = absurd (true≢false (sym is))
+same_key_true (Num m) (Act a) is = absurd (true≢false (sym is))
+same_key_true (Pair a b) (Test l y n) is = absurd (true≢false (sym is))
+same_key_true (Pair a b) (Num m) is = absurd (true≢false (sym is))
+same_key_true (Pair a b) (Act c) is = absurd (true≢false (sym is))
+same_key_true (Act a) (Test l y n) is = absurd (true≢false (sym is))
+same_key_true (Act a) (Num m) is = absurd (true≢false (sym is))
+same_key_true (Act a) (Pair b c) is = absurd (true≢false (sym is))
+
+pub same_key_tells : (key other : Key) → (same_key key other ≡ true) ↔ (key ≡ other)
+same_key_tells key other = (same_key_true key other, λ same. subst (λ k. same_key key k ≡ true) same (same_key_self key))

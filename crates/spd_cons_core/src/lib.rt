@@ -6,6 +6,7 @@
 
 mod event;
 mod key;
+pub mod laws;
 mod mind;
 mod seat;
 mod spelling;

@@ -1,0 +1,125 @@
+//! The laws of the machine. Each function does nothing: its contract is the law, for the proofs of
+//! the table that runs in threads, each of whose atomic steps is one event.
+ghost use Rattle.std.specs.Prelude.{◌≡◌, ◌≢◌, ℕ, ◌+◌, ◌*◌, ◌<◌, ◌≤◌, ◌↔◌, ℤ, List, IsTrue, length, take};
+ghost use Rattle.std.specs.List.{AllByRecursion, Contains};
+ghost use Rattle.std.specs.Int.{IsNextPowerOfTwo};
+ghost use Rattle.spd_cons_core.specs.declared.key.Entry.{Entry};
+ghost use Rattle.spd_cons_core.specs.declared.key.Key.{Key};
+ghost use Rattle.spd_cons_core.specs.declared.mind.Known.{Known};
+ghost use Rattle.spd_cons_core.specs.declared.event.Event.{Event};
+ghost use Rattle.spd_cons_core.specs.Views.{Machine};
+ghost use Rattle.spd_cons_core.specs.Spelling.{words_of, start_of, IsKey};
+ghost use Rattle.spd_cons_core.specs.Seats.{seat_at, bucket, Names, entry_words, same_key};
+ghost use Rattle.spd_cons_core.specs.Events.{load_bucket, claim, store_content, exchange_bucket, load_content, split, join, run, new_machine};
+ghost use Rattle.spd_cons_core.specs.Invariants.{IsSized, IsSound, IsEvent, Keeps, total, filled, shares};
+
+// What each kind of event keeps ------------------------------------------------------------------
+
+/// A bucket that is loaded keeps the invariant, and what was published stays.
+pub fn load_bucket_keeps()
+    ensures { (c : Machine) (seat : ℕ) (key : Key) → IsSized c → IsSound c → IsKey key → Keeps c (load_bucket c seat key) }
+{
+}
+
+/// A claim keeps the invariant, and what was published stays.
+pub fn claim_keeps()
+    ensures { (c : Machine) (seat : ℕ) → IsSized c → IsSound c → Keeps c (claim c seat) }
+{
+}
+
+/// A word that is stored keeps the invariant, and what was published stays.
+pub fn store_content_keeps()
+    ensures { (c : Machine) (seat word : ℕ) → IsSized c → IsSound c → Keeps c (store_content c seat word) }
+{
+}
+
+/// An exchange keeps the invariant, and what was published stays.
+pub fn exchange_bucket_keeps()
+    ensures { (c : Machine) (seat : ℕ) → IsSized c → IsSound c → Keeps c (exchange_bucket c seat) }
+{
+}
+
+/// A word that is compared keeps the invariant, and what was published stays.
+pub fn load_content_keeps()
+    ensures { (c : Machine) (seat : ℕ) (e : Entry) (word : ℕ) → IsSized c → IsSound c → Keeps c (load_content c seat e word) }
+{
+}
+
+/// A split keeps the invariant, and what was published stays.
+pub fn split_keeps()
+    ensures { (c : Machine) (seat : ℕ) → IsSized c → IsSound c → Keeps c (split c seat) }
+{
+}
+
+/// A join keeps the invariant, and what was published stays.
+pub fn join_keeps()
+    ensures { (c : Machine) (seat other : ℕ) → IsSized c → IsSound c → Keeps c (join c seat other) }
+{
+}
+
+/// Every list of events keeps the invariant, and what was published stays.
+pub fn run_keeps()
+    ensures { (c : Machine) (events : List Event) → IsSized c → IsSound c → AllByRecursion IsEvent events → Keeps c (run c events) }
+{
+}
+
+/// A machine with nothing in it meets the invariant.
+pub fn new_machine_is_sound()
+    ensures sized { (limit most count : ℕ) → 16 ≤ limit → limit ≤ 8388608 → 1 ≤ most → most ≤ 128 → IsNextPowerOfTwo (2 * (limit + most)) count → IsSized (new_machine limit most count) }
+    ensures sound { (limit most count : ℕ) → 1 ≤ most → IsSound (new_machine limit most count) }
+{
+}
+
+// What the invariant says ------------------------------------------------------------------------
+
+/// Two filled buckets name entries with different keys.
+pub fn filled_buckets_differ()
+    ensures { (c : Machine) (a b d e : ℕ) (key : Key) → IsSound c → Names c a d → Names c b e → a ≢ b → entry_words c d ≡ words_of key → entry_words c e ≢ words_of key }
+{
+}
+
+/// What two seats know agrees, whichever were split or joined before: equal entries have equal keys,
+/// and equal keys have equal entries.
+pub fn seats_agree()
+    ensures keys { (c : Machine) (i j : ℕ) (k other : Known) → IsSound c → IsTrue (seat_at c i).live → IsTrue (seat_at c j).live → Contains (seat_at c i).knows k → Contains (seat_at c j).knows other → k.entry ≡ other.entry → k.key ≡ other.key }
+    ensures entries { (c : Machine) (i j : ℕ) (k other : Known) → IsSound c → IsTrue (seat_at c i).live → IsTrue (seat_at c j).live → Contains (seat_at c i).knows k → Contains (seat_at c j).knows other → k.key ≡ other.key → k.entry ≡ other.entry }
+{
+}
+
+/// A seat that has met the end of the claims and stands, with its splits left, for all seats has
+/// published more than `limit` entries.
+pub fn last_seat_is_full()
+    ensures { (c : Machine) (i : ℕ) → IsSound c → IsTrue (seat_at c i).live → IsTrue (seat_at c i).ended → shares (seat_at c i) ≡ c.most → c.limit < length (seat_at c i).published }
+{
+}
+
+/// The number of published entries is the sum of the lengths of the seats' lists, and of the last
+/// seat's list alone once all were joined into it.
+pub fn lists_count_published()
+    ensures all { (c : Machine) → IsSound c → filled c ≡ total (λ seat. length seat.published) c }
+    ensures last { (c : Machine) (i : ℕ) → IsSound c → IsTrue (seat_at c i).live → shares (seat_at c i) ≡ c.most → filled c ≡ length (seat_at c i).published }
+{
+}
+
+/// Each seat claims at most once past the end, so the claim number is bounded.
+pub fn claims_are_bounded()
+    ensures { (c : Machine) → IsSound c → c.claims ≤ c.limit + 2 * c.most }
+{
+}
+
+// How keys are spelled ---------------------------------------------------------------------------
+
+/// Equal keys have equal words and different keys different ones, five each: so a comparison of the
+/// words stands for one of the keys.
+pub fn words_tell_keys()
+    ensures five { (key : Key) → length (words_of key) ≡ 5 }
+    ensures tell { (key other : Key) → IsKey key → IsKey other → words_of key ≡ words_of other → key ≡ other }
+    ensures same { (key other : Key) → IsTrue (same_key key other) ↔ (key ≡ other) }
+{
+}
+
+/// A start bucket is one of the buckets.
+pub fn start_is_a_bucket()
+    ensures { (words : List ℕ) (count : ℕ) → 0 < count → start_of words count < count }
+{
+}
