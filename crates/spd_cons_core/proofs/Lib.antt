@@ -15,3 +15,4 @@ pub mod Bounds
 pub mod Taken
 pub mod Runs
 pub mod Consequences
+pub mod Transitions

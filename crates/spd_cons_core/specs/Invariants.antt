@@ -154,3 +154,24 @@ pub record Keeps (before after : Machine) : Type 0 where
   pub sized : IsSized after
   pub sound : IsSound after
   pub stays : Stays before after
+
+-- the seat has put its spare, in which the whole key of its call stands, into a bucket that was empty
+pub record Publishes (before after : Machine) (seat b : ℕ) : Type 0 where
+  pub call : Call
+  pub entry : Entry
+  pub live : IsTrue (seat_at before seat).live
+  pub in_call : (seat_at before seat).call ≡ Some call
+  pub own : (seat_at before seat).spare ≡ Some entry
+  pub whole : entry_words before entry.0 ≡ words_of call.key
+  pub was_empty : bucket before b ≡ 0
+  pub names : Names after b entry.0
+
+-- the seat whose step an event is
+abbrev pub seat_of : Event → ℕ
+seat_of (LoadBucket seat key) = seat
+seat_of (Claim seat) = seat
+seat_of (StoreContent seat word) = seat
+seat_of (ExchangeBucket seat) = seat
+seat_of (LoadContent seat e word) = seat
+seat_of (Split seat) = seat
+seat_of (Join seat other) = seat
