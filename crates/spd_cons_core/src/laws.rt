@@ -1,17 +1,18 @@
 //! The laws of the machine. Each function does nothing: its contract is the law, for the proofs of
 //! the table that runs in threads, each of whose atomic steps is one event.
-ghost use Rattle.std.specs.Prelude.{◌≡◌, ◌≢◌, ℕ, ◌+◌, ◌*◌, ◌<◌, ◌≤◌, ◌↔◌, ℤ, List, IsTrue, length, take};
+ghost use Rattle.std.specs.Prelude.{◌≡◌, ◌≢◌, ℕ, ◌+◌, ◌*◌, ◌<◌, ◌≤◌, ◌↔◌, ℤ, List, IsTrue, IsFalse, Some, length};
 ghost use Rattle.std.specs.List.{AllByRecursion, Contains};
 ghost use Rattle.std.specs.Int.{IsNextPowerOfTwo};
 ghost use Rattle.spd_cons_core.specs.declared.key.Entry.{Entry};
 ghost use Rattle.spd_cons_core.specs.declared.key.Key.{Key};
 ghost use Rattle.spd_cons_core.specs.declared.mind.Known.{Known};
+ghost use Rattle.spd_cons_core.specs.declared.mind.Call.{Call};
 ghost use Rattle.spd_cons_core.specs.declared.event.Event.{Event};
 ghost use Rattle.spd_cons_core.specs.Views.{Machine};
 ghost use Rattle.spd_cons_core.specs.Spelling.{words_of, start_of, IsKey};
-ghost use Rattle.spd_cons_core.specs.Seats.{seat_at, bucket, Names, entry_words, same_key};
-ghost use Rattle.spd_cons_core.specs.Events.{load_bucket, claim, store_content, exchange_bucket, load_content, split, join, run, new_machine};
-ghost use Rattle.spd_cons_core.specs.Invariants.{IsSized, IsSound, IsEvent, Keeps, total, filled, shares};
+ghost use Rattle.spd_cons_core.specs.Seats.{seat_at, bucket, bucket_count, Names, entry_words, same_key};
+ghost use Rattle.spd_cons_core.specs.Events.{load_bucket, claim, store_content, exchange_bucket, load_content, split, join, next_bucket, step, run, new_machine};
+ghost use Rattle.spd_cons_core.specs.Invariants.{IsSized, IsSound, IsEvent, Keeps, Publishes, seat_of, total, filled, shares};
 
 // What each kind of event keeps ------------------------------------------------------------------
 
@@ -67,6 +68,44 @@ pub fn run_keeps()
 pub fn new_machine_is_sound()
     ensures sized { (limit most count : ℕ) → 16 ≤ limit → limit ≤ 8388608 → 1 ≤ most → most ≤ 128 → IsNextPowerOfTwo (2 * (limit + most)) count → IsSized (new_machine limit most count) }
     ensures sound { (limit most count : ℕ) → 1 ≤ most → IsSound (new_machine limit most count) }
+{
+}
+
+/// After every list of events from a machine with nothing in it, the invariant holds.
+pub fn every_run_is_sound()
+    ensures {
+        (limit most count : ℕ) (events : List Event) → 16 ≤ limit → limit ≤ 8388608 → 1 ≤ most → most ≤ 128 → IsNextPowerOfTwo (2 * (limit + most)) count → AllByRecursion IsEvent events
+        → Keeps (new_machine limit most count) (run (new_machine limit most count) events)
+    }
+{
+}
+
+// What an event may write ------------------------------------------------------------------------
+
+/// Only the seat that holds a spare stores its words.
+pub fn only_own_words_are_stored()
+    ensures { (c : Machine) (seat word e : ℕ) → ((own : Entry) → (seat_at c seat).spare ≡ Some own → own.0 ≢ e) → entry_words (store_content c seat word) e ≡ entry_words c e }
+{
+}
+
+/// An exchange that changes a bucket puts the seat's spare there, in which its key stands whole.
+pub fn only_whole_keys_are_published()
+    ensures { (c : Machine) (seat b : ℕ) → IsSized c → IsSound c → bucket (exchange_bucket c seat) b ≢ bucket c b → Publishes c (exchange_bucket c seat) seat b }
+{
+}
+
+/// An event of a seat that isn't live changes nothing.
+pub fn spent_seats_rest()
+    ensures { (c : Machine) (event : Event) → IsFalse (seat_at c (seat_of event)).live → step c event ≡ c }
+{
+}
+
+/// A search that goes on never comes back to its start, so it ends after as many buckets as there are.
+pub fn searches_end()
+    ensures {
+        (c : Machine) (seat : ℕ) (call : Call) (e : Entry) → IsSized c → IsSound c → IsTrue (seat_at c seat).live → (seat_at c seat).call ≡ Some call → call.found ≡ Some e
+        → next_bucket (bucket_count c) call.at ≢ start_of (words_of call.key) (bucket_count c)
+    }
 {
 }
 
