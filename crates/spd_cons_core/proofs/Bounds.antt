@@ -17,12 +17,12 @@ pub power_between : (n r : ℕ) → IsPowerOfTwo n → 2 ^ r ≤ n → n < 2 * 2
 power_between n r (k, is) low high =
     ⊎_elim (λ (same : k ≡ r). is ∙ ap (λ i. 2 ^ i) same)
     (λ o. ⊎_elim
-        (λ (less : k < r). let p = pow_below k r less in absurd (omega arith))
-        (λ (more : r < k). let step : 2 ^ (r + 1) ≡ 2 ^ r * 2 = pow_more 2 r in ⊎_elim
-            (λ (next : k ≡ r + 1). let p : 2 ^ k ≡ 2 ^ (r + 1) = ap (λ i. 2 ^ i) next in absurd (omega arith))
-            (λ (other : k ≡ r + 1 → ⊥). let p = pow_below (r + 1) k (omega (arith, other)) in absurd (omega arith))
-            (cases_eq k (r + 1)))
-        o)
+    (λ (less : k < r). let p = pow_below k r less in absurd (omega arith))
+    (λ (more : r < k). let step : 2 ^ (r + 1) ≡ 2 ^ r * 2 = pow_more 2 r in ⊎_elim
+    (λ (next : k ≡ r + 1). let p : 2 ^ k ≡ 2 ^ (r + 1) = ap (λ i. 2 ^ i) next in absurd (omega arith))
+    (λ (other : k ≡ r + 1 → ⊥). let p = pow_below (r + 1) k (omega (arith, other)) in absurd (omega arith))
+    (cases_eq k (r + 1)))
+    o)
     (cases_order k r)
 
 -- what stands in a bucket
@@ -30,7 +30,7 @@ pub bucket_below : (c : Machine) → IsSized c → IsSound c → (b : ℕ) → b
 bucket_below c sized sound b =
     ⊎_elim (λ (empty : bucket c b ≡ 0). omega arith)
     (λ (full : bucket c b ≡ 0 → ⊥). let names : Names c b (bucket c b - 1) = omega (arith, full) in
-        let low = (sound.only_claimed b (bucket c b - 1) names).below_end in omega arith)
+    let low = (sound.only_claimed b (bucket c b - 1) names).below_end in omega arith)
     (cases_eq (bucket c b) 0)
 
 pub bucket_small : (c : Machine) → IsSized c → IsSound c → (b : ℕ) → bucket c b ≤ 2 ^ 32

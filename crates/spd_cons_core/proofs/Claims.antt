@@ -172,7 +172,7 @@ pub claim_keeps : (c : Machine) (i : ℕ) → IsSized c → IsSound c → Keeps 
 claim_keeps c i sized sound =
     cond_both (can_claim (seat_at c i)) _ c (Keeps c)
     (λ test. let may = can (seat_at c i) test in
-        cond_both (ltb c.claims (c.limit + c.most)) _ _ (λ (w : Seat). Keeps c (with_claim c i w))
-        (λ room. with_spare c i sized sound may (ltb-true c.claims (c.limit + c.most) room))
-        (λ past. at_end c i sized sound may (ltb-false c.claims (c.limit + c.most) past)))
+    cond_both (ltb c.claims (c.limit + c.most)) _ _ (λ (w : Seat). Keeps c (with_claim c i w))
+    (λ room. with_spare c i sized sound may (ltb-true c.claims (c.limit + c.most) room))
+    (λ past. at_end c i sized sound may (ltb-false c.claims (c.limit + c.most) past)))
     (λ _. keeps_same c sized sound)

@@ -25,7 +25,7 @@ use Rattle.spd_cons_core.proofs.Writes.{set_cases, live_within, share_of, share_
 halves_same : (m n : ℤ) → FitsSigned w128 m → FitsSigned w128 n → low m ≡ low n → high m ≡ high n → m ≡ n
 halves_same m n fits fits' lows highs =
     let whole : cast_unsigned w128 m ≡ cast_unsigned w128 n =
-        sym (shr_split (cast_unsigned w128 m) 64) ∙ ((λ x. highs x * 2 ^ 64 + lows x) ∙ shr_split (cast_unsigned w128 n) 64) in
+    sym (shr_split (cast_unsigned w128 m) 64) ∙ ((λ x. highs x * 2 ^ 64 + lows x) ∙ shr_split (cast_unsigned w128 n) 64) in
     sym (to_z-of_z w128 m fits) ∙ (ap (to_z w128) whole ∙ to_z-of_z w128 n fits')
 
 pub words_tell : (key other : Key) → IsKey key → IsKey other → words_of key ≡ words_of other → key ≡ other
@@ -97,7 +97,7 @@ total_alone f c sound i live all =
     let out = sum_by-set (share_of f) c.seats i spent spent within in
     let mine = share_live f (seat_at c i) live in
     let none : All (λ s. share_of f s ≤ 0) (set c.seats i spent) = All-from_get_or (λ s. share_of f s ≤ 0) (set c.seats i spent) spent
-        (λ j _. set_cases (λ j s. share_of f s ≤ 0) c.seats i spent spent within (omega arith) (λ j other. not_live (seat_at c j) (cases_Bool (seat_at c j).live) (λ there. alone c sound i live all j other there)) j) in
+    (λ j _. set_cases (λ j s. share_of f s ≤ 0) c.seats i spent spent within (omega arith) (λ j other. not_live (seat_at c j) (cases_Bool (seat_at c j).live) (λ there. alone c sound i live all j other there)) j) in
     let rest = sum_by-le (share_of f) 0 (set c.seats i spent) none in
     omega arith
   where

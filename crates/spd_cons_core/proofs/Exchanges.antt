@@ -95,11 +95,11 @@ no_twin c i call spare sound may b e names same =
     let empty = may.empty in
     ⊎_elim
     (λ before. let other = search.passed b (named_within c b e names) before in
-        let n = other.names in let which : other.entry ≡ e = omega arith in other.differs (ap (entry_words c) which ∙ same))
+    let n = other.names in let which : other.entry ≡ e = omega arith in other.differs (ap (entry_words c) which ∙ same))
     (λ rest. ⊎_elim
-        (λ (here : b ≡ call.at). let n : 0 ≡ e + 1 = sym empty ∙ (ap (bucket c) (sym here) ∙ names) in absurd (omega arith))
-        (λ behind. sound.filled_from_start b e call.at names search.at_bucket (subst (λ l. IsPassed (start_of l (bucket_count c)) b call.at) (sym same) behind) empty)
-        rest)
+    (λ (here : b ≡ call.at). let n : 0 ≡ e + 1 = sym empty ∙ (ap (bucket c) (sym here) ∙ names) in absurd (omega arith))
+    (λ behind. sound.filled_from_start b e call.at names search.at_bucket (subst (λ l. IsPassed (start_of l (bucket_count c)) b call.at) (sym same) behind) empty)
+    rest)
     (passed_order (start_of (words_of call.key) (bucket_count c)) call.at b)
 
 -- one more bucket is filled
@@ -192,23 +192,23 @@ wins c i call spare sized sound may =
             (has.cases b e names);
         named_once = λ a b e names names'. ⊎_elim
             (λ (t : (a ≡ call.at) × (e ≡ spare.0)). ⊎_elim
-                (λ (t' : (b ≡ call.at) × (e ≡ spare.0)). t.0 ∙ sym t'.0)
-                (λ (t' : (b ≢ call.at) × Names c b e). absurd (is_mine b e t'.1 t.1))
-                (has.cases b e names'))
+            (λ (t' : (b ≡ call.at) × (e ≡ spare.0)). t.0 ∙ sym t'.0)
+            (λ (t' : (b ≢ call.at) × Names c b e). absurd (is_mine b e t'.1 t.1))
+            (has.cases b e names'))
             (λ (t : (a ≢ call.at) × Names c a e). ⊎_elim
-                (λ (t' : (b ≡ call.at) × (e ≡ spare.0)). absurd (is_mine a e t.1 t'.1))
-                (λ (t' : (b ≢ call.at) × Names c b e). sound.named_once a b e t.1 t'.1)
-                (has.cases b e names'))
+            (λ (t' : (b ≡ call.at) × (e ≡ spare.0)). absurd (is_mine a e t.1 t'.1))
+            (λ (t' : (b ≢ call.at) × Names c b e). sound.named_once a b e t.1 t'.1)
+            (has.cases b e names'))
             (has.cases a e names);
         listed_once = λ b e names. ⊎_elim
             (λ (t : (b ≡ call.at) × (e ≡ spare.0)).
-                let none = sound.listed_never e (λ b' names'. is_mine b' e names' t.1) in
-                let one = times_more e seat.published spare true (eq-eqb spare.0 e (sym t.1)) in
-                let sum = listed e in omega arith)
+            let none = sound.listed_never e (λ b' names'. is_mine b' e names' t.1) in
+            let one = times_more e seat.published spare true (eq-eqb spare.0 e (sym t.1)) in
+            let sum = listed e in omega arith)
             (λ (t : (b ≢ call.at) × Names c b e).
-                let one = sound.listed_once b e t.1 in
-                let same = times_more e seat.published spare false (ne_eqb spare.0 e (λ x. is_mine b e t.1 (sym x))) in
-                let sum = listed e in omega arith)
+            let one = sound.listed_once b e t.1 in
+            let same = times_more e seat.published spare false (ne_eqb spare.0 e (λ x. is_mine b e t.1 (sym x))) in
+            let sum = listed e in omega arith)
             (has.cases b e names);
         listed_never = λ e never.
             let none = sound.listed_never e (λ b names. never b (g.names b e names)) in
@@ -217,13 +217,13 @@ wins c i call spare sized sound may =
         filled_from_start = λ b e k names within passed zero. filled_before c d i call spare sized sound may has refl b e k names (subst (λ n. k < n) g.count within) (subst (λ n. IsPassed (start_of (entry_words c e) n) b k) g.count passed) zero;
         distinct_keys = λ a b e h names names' same. ⊎_elim
             (λ (t : (a ≡ call.at) × (e ≡ spare.0)). ⊎_elim
-                (λ (t' : (b ≡ call.at) × (h ≡ spare.0)). t.0 ∙ sym t'.0)
-                (λ (t' : (b ≢ call.at) × Names c b h). absurd (no_twin c i call spare sound may b h t'.1 (sym same ∙ (ap (entry_words c) t.1 ∙ spelled c i call spare sized sound may))))
-                (has.cases b h names'))
+            (λ (t' : (b ≡ call.at) × (h ≡ spare.0)). t.0 ∙ sym t'.0)
+            (λ (t' : (b ≢ call.at) × Names c b h). absurd (no_twin c i call spare sound may b h t'.1 (sym same ∙ (ap (entry_words c) t.1 ∙ spelled c i call spare sized sound may))))
+            (has.cases b h names'))
             (λ (t : (a ≢ call.at) × Names c a e). ⊎_elim
-                (λ (t' : (b ≡ call.at) × (h ≡ spare.0)). absurd (no_twin c i call spare sound may a e t.1 (same ∙ (ap (entry_words c) t'.1 ∙ spelled c i call spare sized sound may))))
-                (λ (t' : (b ≢ call.at) × Names c b h). sound.distinct_keys a b e h t.1 t'.1 same)
-                (has.cases b h names'))
+            (λ (t' : (b ≡ call.at) × (h ≡ spare.0)). absurd (no_twin c i call spare sound may a e t.1 (same ∙ (ap (entry_words c) t'.1 ∙ spelled c i call spare sized sound may))))
+            (λ (t' : (b ≢ call.at) × Names c b h). sound.distinct_keys a b e h t.1 t'.1 same)
+            (has.cases b h names'))
             (has.cases a e names);
         seats = seats_changed c d g sound i w live (won_seat c d i call spare sized sound may has refl refl)
             (λ j other there. record {
@@ -253,13 +253,13 @@ wins c i call spare sized sound may =
     filled_before c d i call spare sized sound may has entries b e k names within passed zero = ⊎_elim
         (λ (here : k ≡ call.at). let n : spare.0 + 1 ≡ 0 = sym has.here ∙ (ap (bucket d) (sym here) ∙ zero) in absurd (omega arith))
         (λ (other : k ≡ call.at → ⊥). let none : bucket c k ≡ 0 = sym (has.others k other) ∙ zero in ⊎_elim
-            (λ (t : (b ≡ call.at) × (e ≡ spare.0)).
-                let search = (sound.seats i may.live).search call may.in_call in
-                let words : entry_words c e ≡ words_of call.key = ap (entry_words c) t.1 ∙ spelled c i call spare sized sound may in
-                let o = search.passed k within (subst (λ n. IsPassed (start_of (words_of call.key) (bucket_count c)) n k) t.0 (subst (λ l. IsPassed (start_of l (bucket_count c)) b k) words passed)) in
-                let n = o.names in absurd (omega arith))
-            (λ (t : (b ≢ call.at) × Names c b e). sound.filled_from_start b e k t.1 within passed none)
-            (has.cases b e names))
+        (λ (t : (b ≡ call.at) × (e ≡ spare.0)).
+        let search = (sound.seats i may.live).search call may.in_call in
+        let words : entry_words c e ≡ words_of call.key = ap (entry_words c) t.1 ∙ spelled c i call spare sized sound may in
+        let o = search.passed k within (subst (λ n. IsPassed (start_of (words_of call.key) (bucket_count c)) n k) t.0 (subst (λ l. IsPassed (start_of l (bucket_count c)) b k) words passed)) in
+        let n = o.names in absurd (omega arith))
+        (λ (t : (b ≢ call.at) × Names c b e). sound.filled_from_start b e k t.1 within passed none)
+        (has.cases b e names))
         (cases_eq k call.at)
 
 -- the search that has lost its exchange: the entry that stands in the bucket now is found
@@ -290,7 +290,7 @@ exchanges c i call spare sized sound live is has whole false test =
     let w : Seat = record (seat_at c i) { call = Some (record call { found = Some (entry (bucket c call.at - 1)); empty = false }) } in
     subst (λ (l : List ℕ). Keeps c (record c { buckets = l; seats = set c.seats i w })) (sym (set-get_or c.buckets call.at 0))
     (call_keeps c i (record call { found = Some (entry (bucket c call.at - 1)); empty = false }) sized sound live
-        (lost_search c (seat_at c i) call ((sound.seats i live).search call is) (eqb-false (bucket c call.at) 0 test) call.found refl))
+    (lost_search c (seat_at c i) call ((sound.seats i live).search call is) (eqb-false (bucket c call.at) 0 test) call.found refl))
 
 in_exchange : (c : Machine) (i : ℕ) → IsSized c → IsSound c → (o : Option Call) (s : Option Entry) → (seat_at c i).call ≡ o → (seat_at c i).spare ≡ s → Keeps c (exchange_in c i o s)
 in_exchange c i sized sound None s is has = keeps_same c sized sound
@@ -298,7 +298,7 @@ in_exchange c i sized sound (Some call) None is has = keeps_same c sized sound
 in_exchange c i sized sound (Some call) (Some spare) is has =
     cond_both (can_exchange call (seat_at c i)) _ c (Keeps c)
     (λ can. let all = and_parts (seat_at c i).live _ can in
-        exchanges c i call spare sized sound all.0 is has (eqb-true call.stored 5 (and_parts call.empty (eqb call.stored 5) all.1).1) (eqb (bucket c call.at) 0) refl)
+    exchanges c i call spare sized sound all.0 is has (eqb-true call.stored 5 (and_parts call.empty (eqb call.stored 5) all.1).1) (eqb (bucket c call.at) 0) refl)
     (λ _. keeps_same c sized sound)
 
 -- an exchange keeps the invariant

@@ -136,12 +136,12 @@ holder c i j may h e =
     set_cases (λ h s. s.live ≡ true → s.spare ≡ Some e → Holder c i j h e) (set c.seats i w) j spent spent (live_within (set c.seats i w) j there_live)
     (λ live _. absurd (true≢false (sym live)))
     (λ h not_j. set_cases (λ h s. h ≢ j → s.live ≡ true → s.spare ≡ Some e → Holder c i j h e) c.seats i w spent (live_within c.seats i may.here)
-        (λ _ _ is. ⊎_elim
-            (λ (mine : (seat_at c i).spare ≡ Some e). record { from = i; live = may.here; has = mine; moved = λ _. refl; stayed = λ _. refl })
-            (λ (its : (seat_at c j).spare ≡ Some e). record { from = j; live = may.there; has = its; moved = λ _. refl; stayed = λ n. absurd (n refl) })
-            (spare_cases (seat_at c i).spare (seat_at c j).spare e is))
-        (λ h _ not_j live is. record { from = h; live = live; has = is; moved = λ x. absurd (not_j x); stayed = λ _. refl })
-        h not_j)
+    (λ _ _ is. ⊎_elim
+    (λ (mine : (seat_at c i).spare ≡ Some e). record { from = i; live = may.here; has = mine; moved = λ _. refl; stayed = λ _. refl })
+    (λ (its : (seat_at c j).spare ≡ Some e). record { from = j; live = may.there; has = its; moved = λ _. refl; stayed = λ n. absurd (n refl) })
+    (spare_cases (seat_at c i).spare (seat_at c j).spare e is))
+    (λ h _ not_j live is. record { from = h; live = live; has = is; moved = λ x. absurd (not_j x); stayed = λ _. refl })
+    h not_j)
     h
 
 joins : (c : Machine) (i j : ℕ) → IsSized c → IsSound c → IsJoining c i j → Keeps c (record c { seats = set (set c.seats i (after_join (seat_at c i) (seat_at c j))) j spent })
@@ -182,7 +182,7 @@ joins c i j sized sound may =
         seats = set_cases (λ h s. s.live ≡ true → IsSeat d s) (set c.seats i w) j spent spent (live_within (set c.seats i w) j there_live)
             (λ live. absurd (true≢false (sym live)))
             (λ h _. set_cases (λ h s. s.live ≡ true → IsSeat d s) c.seats i w spent (live_within c.seats i may.here) (λ _. mine)
-                (λ h _ live. grow_seat c d g (seat_at c h) (leaves_seats c l (seat_at c h) (sound.seats h live)) (sound.seats h live)) h);
+            (λ h _ live. grow_seat c d g (seat_at c h) (leaves_seats c l (seat_at c h) (sound.seats h live)) (sound.seats h live)) h);
         own_spare = λ h g' e live live' is is'.
             let a = holder c i j may h e live is in
             let b = holder c i j may g' e live' is' in

@@ -83,9 +83,9 @@ pub joined_cases : (ys xs : List Known) (x : Known) → Contains (fold learned x
 joined_cases [] xs x at = inl at
 joined_cases (y ∷ ys) xs x at = ⊎_elim
     (λ (was : Contains (learned xs y) x). ⊎_elim
-        (λ (old : Contains xs x). inl old)
-        (λ (same : y ≡ x). inr (0, omega arith, same))
-        (learned_cases xs y x was))
+    (λ (old : Contains xs x). inl old)
+    (λ (same : y ≡ x). inr (0, omega arith, same))
+    (learned_cases xs y x was))
     (λ (later : Contains ys x). inr (contains_cons y ys x later))
     (joined_cases ys (learned xs y) x at)
 

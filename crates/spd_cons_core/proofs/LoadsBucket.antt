@@ -85,17 +85,17 @@ loaded : (c : Machine) (i : ℕ) (call : Call) → IsSized c → IsSound c → (
 loaded c i call sized sound live ready =
     cond_both (eqb (bucket c call.at) 0) _ _ (λ (w : Seat). Keeps c (with_seat c i w))
     (λ _. cond_both (is_none (seat_at c i).spare && (seat_at c i).ended) _ _ (λ (w : Seat). Keeps c (with_seat c i w))
-        (λ _. end_keeps c i Full sized sound live)
-        (λ _. call_keeps c i (record call { empty = true }) sized sound live (emptied c (seat_at c i) call ready.search)))
+    (λ _. end_keeps c i Full sized sound live)
+    (λ _. call_keeps c i (record call { empty = true }) sized sound live (emptied c (seat_at c i) call ready.search)))
     (λ full. call_keeps c i (record call { found = Some (entry (bucket c call.at - 1)) }) sized sound live
-        (found_entry c (seat_at c i) call call.empty ready.search (ready.search.none_right ready.none_found) (eqb-false (bucket c call.at) 0 full)))
+    (found_entry c (seat_at c i) call call.empty ready.search (ready.search.none_right ready.none_found) (eqb-false (bucket c call.at) 0 full)))
 
 -- a bucket that is loaded keeps the invariant, where the key of a load that is taken is in range
 pub taken_load_keeps : (c : Machine) (i : ℕ) (key : Key) → IsSized c → IsSound c → (can_load_bucket key (seat_at c i) ≡ true → IsKey key) → Keeps c (load_bucket c i key)
 taken_load_keeps c i key sized sound fits =
     cond_both (can_load_bucket key (seat_at c i)) _ c (Keeps c)
     (λ can. let live = (and_parts (seat_at c i).live _ can).0 in
-        loaded c i (call_for (bucket_count c) key (seat_at c i)) sized sound live (ready c (seat_at c i) key sized (fits can) (sound.seats i live).search can))
+    loaded c i (call_for (bucket_count c) key (seat_at c i)) sized sound live (ready c (seat_at c i) key sized (fits can) (sound.seats i live).search can))
     (λ _. keeps_same c sized sound)
 
 -- a bucket that is loaded keeps the invariant

@@ -126,20 +126,20 @@ compared c i call e word sized sound live is is_found found =
     let search = (sound.seats i live).search call is in
     cond_both (eqb (get_or (entry_words c e.0) word 0) (get_or (words_of call.key) call.right 0)) _ _ (λ (w : Seat). Keeps c (with_seat c i w))
     (λ same. let more = more_right c (seat_at c i) call e word sized sound search found (eqb-true _ _ same) in
-        cond_both (eqb (call.right + 1) 5) _ _ (λ (w : Seat). Keeps c (with_seat c i w))
-        (λ all. got c i call e sized sound live (found_known c (seat_at c i) call e sized sound search found.names
-            (subst (λ n. take n (entry_words c e.0) ≡ take n (words_of call.key)) (eqb-true (call.right + 1) 5 all) more)))
-        (λ _. call_keeps c i (record call { right = call.right + 1 }) sized sound live (righted c (seat_at c i) call e search is_found more)))
+    cond_both (eqb (call.right + 1) 5) _ _ (λ (w : Seat). Keeps c (with_seat c i w))
+    (λ all. got c i call e sized sound live (found_known c (seat_at c i) call e sized sound search found.names
+    (subst (λ n. take n (entry_words c e.0) ≡ take n (words_of call.key)) (eqb-true (call.right + 1) 5 all) more)))
+    (λ _. call_keeps c i (record call { right = call.right + 1 }) sized sound live (righted c (seat_at c i) call e search is_found more)))
     (λ other. call_keeps c i (record call { at = next_bucket (bucket_count c) call.at; found = None; right = 0 }) sized sound live
-        (moved_on c (seat_at c i) call e search found.names (λ same. eqb-false _ _ other (ap (λ l. get_or l word 0) same ∙ ap (λ n. get_or (words_of call.key) n 0) found.next))))
+    (moved_on c (seat_at c i) call e search found.names (λ same. eqb-false _ _ other (ap (λ l. get_or l word 0) same ∙ ap (λ n. get_or (words_of call.key) n 0) found.next))))
 
 content_in : (c : Machine) (i : ℕ) (e : Entry) (word : ℕ) → IsSized c → IsSound c → (o : Option Call) → (seat_at c i).call ≡ o → Keeps c (compare_in c i e word o)
 content_in c i e word sized sound None is = keeps_same c sized sound
 content_in c i e word sized sound (Some call) is =
     cond_both (can_compare e word call (seat_at c i)) _ c (Keeps c)
     (λ can. let live = (and_parts (seat_at c i).live _ can).0 in
-        let search = (sound.seats i live).search call is in
-        compared c i call e word sized sound live is (is_found call.found refl (and_parts _ _ (and_parts (seat_at c i).live _ can).1).0) (has_found c (seat_at c i) call e word search can))
+    let search = (sound.seats i live).search call is in
+    compared c i call e word sized sound live is (is_found call.found refl (and_parts _ _ (and_parts (seat_at c i).live _ can).1).0) (has_found c (seat_at c i) call e word search can))
     (λ _. keeps_same c sized sound)
   where
     is_found : (o : Option Entry) → call.found ≡ o → option_map_or (λ found. eqb found.0 e.0) o false ≡ true → call.found ≡ Some e

@@ -40,10 +40,10 @@ spares_changed c sound i w live alone j h e =
     let within = live_within c.seats i live in
     set_cases (λ j s. s.live ≡ true → (get_or (set c.seats i w) h spent).live ≡ true → s.spare ≡ Some e → (get_or (set c.seats i w) h spent).spare ≡ Some e → j ≡ h) c.seats i w spent within
     (λ _ there mine its. set_cases (λ h s. s.live ≡ true → s.spare ≡ Some e → i ≡ h) c.seats i w spent within (λ _ _. refl)
-        (λ h other there' its'. absurd (alone e mine h other there' its')) h there its)
+    (λ h other there' its'. absurd (alone e mine h other there' its')) h there its)
     (λ j other here there its its'. set_cases (λ h s. s.live ≡ true → s.spare ≡ Some e → j ≡ h) c.seats i w spent within
-        (λ _ mine. absurd (alone e mine j other here its))
-        (λ h _ there' its''. sound.own_spare j h e here there' its its'') h there its')
+    (λ _ mine. absurd (alone e mine j other here its))
+    (λ h _ there' its''. sound.own_spare j h e here there' its its'') h there its')
     j
 
 -- a seat that keeps its spare

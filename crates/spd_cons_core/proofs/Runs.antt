@@ -54,7 +54,7 @@ no_names : (count b e : ℕ) → get_or (replicate count 0) b 0 ≡ e + 1 → �
 no_names count b e names = ⊎_elim
     (λ (within : b < count). let n : get_or {A = ℕ} (replicate count 0) b 0 ≡ 0 = get_or-replicate count b 0 0 within in absurd (omega arith))
     (λ (past : count ≤ b). let len : length {A = ℕ} (replicate count 0) ≡ count = length-replicate count 0 in
-        let n : get_or {A = ℕ} (replicate count 0) b 0 ≡ 0 = get_or_past (replicate count 0) b 0 (omega arith) in absurd (omega arith))
+    let n : get_or {A = ℕ} (replicate count 0) b 0 ≡ 0 = get_or_past (replicate count 0) b 0 (omega arith) in absurd (omega arith))
     (cases_lt b count)
 
 -- the seat of a new machine is its first

@@ -21,9 +21,9 @@ push_cases P l y d old new j =
     ⊎_elim
     (λ (e : j ≡ length l). subst (P j) (sym (get_or_push l y d j (sym e))) (subst (λ k. P k y) (sym e) new))
     (λ o. ⊎_elim
-        (λ (less : j < length l). subst (P j) (sym (get_or_append_left l (y ∷ []) d j less)) (old j))
-        (λ (more : length l < j). subst (P j) (get_or_past l j d (omega arith) ∙ sym (get_or_past (l ++ y ∷ []) j d (omega (arith, length_push l y)))) (old j))
-        o)
+    (λ (less : j < length l). subst (P j) (sym (get_or_append_left l (y ∷ []) d j less)) (old j))
+    (λ (more : length l < j). subst (P j) (get_or_past l j d (omega arith) ∙ sym (get_or_past (l ++ y ∷ []) j d (omega (arith, length_push l y)))) (old j))
+    o)
     (cases_order j (length l))
 
 -- the table is the same, whatever the seats
@@ -120,5 +120,5 @@ pub split_keeps : (c : Machine) (i : ℕ) → IsSized c → IsSound c → Keeps 
 split_keeps c i sized sound =
     cond_both (can_split (seat_at c i)) _ c (Keeps c)
     (λ can. let all = and_parts (seat_at c i).live _ can in
-        splits c i sized sound all.0 (ltb-true 0 (seat_at c i).splits (and_parts (is_none (seat_at c i).call) _ all.1).1))
+    splits c i sized sound all.0 (ltb-true 0 (seat_at c i).splits (and_parts (is_none (seat_at c i).call) _ all.1).1))
     (λ _. keeps_same c sized sound)

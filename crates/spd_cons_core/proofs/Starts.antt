@@ -51,16 +51,16 @@ passed_next count start at b within =
     onward passed = ⊎_elim (λ (same : b ≡ at). inr same) (λ (other : b ≡ at → ⊥). inl (⊎_elim
         (λ (p : (start ≤ b) × (b < at + 1)). inl (p.0, omega (arith, p.1, other)))
         (λ q. inr (⊎_elim
-            (λ (p : (at + 1 < start) × (start ≤ b)). inl (omega (arith, p.0), p.1))
-            (λ (p : (at + 1 < start) × (b < at + 1)). inr (omega (arith, p.0), omega (arith, p.1, other))) q))
+        (λ (p : (at + 1 < start) × (start ≤ b)). inl (omega (arith, p.0), p.1))
+        (λ (p : (at + 1 < start) × (b < at + 1)). inr (omega (arith, p.0), omega (arith, p.1, other))) q))
         passed)) (cases_eq b at)
 
     wrapped : count ≤ at + 1 → IsPassed start 0 b → IsPassed start at b ⊎ (b ≡ at)
     wrapped last passed = ⊎_elim (λ (same : b ≡ at). inr same) (λ (other : b ≡ at → ⊥). inl (⊎_elim
         (λ (p : (start ≤ b) × (b < 0)). absurd (omega (arith, p.1)))
         (λ q. ⊎_elim
-            (λ (p : (0 < start) × (start ≤ b)). inl (p.1, omega (arith, other)))
-            (λ (p : (0 < start) × (b < 0)). absurd (omega (arith, p.1))) q)
+        (λ (p : (0 < start) × (start ≤ b)). inl (p.1, omega (arith, other)))
+        (λ (p : (0 < start) × (b < 0)). absurd (omega (arith, p.1))) q)
         passed)) (cases_eq b at)
 
 -- of two buckets, a search comes to one of them first
@@ -68,17 +68,17 @@ pub passed_order : (start a b : ℕ) → IsPassed start a b ⊎ ((b ≡ a) ⊎ I
 passed_order start a b =
     ⊎_elim
     (λ (below_a : a < start). ⊎_elim
-        (λ (below_b : b < start). ⊎_elim
-            (λ (same : b ≡ a). inr (inl same))
-            (λ o. ⊎_elim (λ (less : b < a). inl (inr (inr (below_a, less)))) (λ (more : a < b). inr (inr (inr (inr (below_b, more))))) o)
-            (cases_order b a))
-        (λ (from_b : start ≤ b). inl (inr (inl (below_a, from_b))))
-        (cases_lt b start))
+    (λ (below_b : b < start). ⊎_elim
+    (λ (same : b ≡ a). inr (inl same))
+    (λ o. ⊎_elim (λ (less : b < a). inl (inr (inr (below_a, less)))) (λ (more : a < b). inr (inr (inr (inr (below_b, more))))) o)
+    (cases_order b a))
+    (λ (from_b : start ≤ b). inl (inr (inl (below_a, from_b))))
+    (cases_lt b start))
     (λ (from_a : start ≤ a). ⊎_elim
-        (λ (below_b : b < start). inr (inr (inr (inl (below_b, from_a)))))
-        (λ (from_b : start ≤ b). ⊎_elim
-            (λ (same : b ≡ a). inr (inl same))
-            (λ o. ⊎_elim (λ (less : b < a). inl (inl (from_b, less))) (λ (more : a < b). inr (inr (inl (from_a, more)))) o)
-            (cases_order b a))
-        (cases_lt b start))
+    (λ (below_b : b < start). inr (inr (inr (inl (below_b, from_a)))))
+    (λ (from_b : start ≤ b). ⊎_elim
+    (λ (same : b ≡ a). inr (inl same))
+    (λ o. ⊎_elim (λ (less : b < a). inl (inl (from_b, less))) (λ (more : a < b). inr (inr (inl (from_a, more)))) o)
+    (cases_order b a))
+    (cases_lt b start))
     (cases_lt a start)

@@ -61,8 +61,8 @@ stored_more c i call spare word w sized sound may =
     let old : List ℕ = entry_words c spare.0 in
     let key : List ℕ = words_of call.key in
     let here : entry_words (with_word c i spare.0 word (get_or key word 0) w) spare.0 ≡ set old call.stored (get_or key call.stored 0) =
-        get_or-set_same c.entries spare.0 (set old word (get_or key word 0)) [] (claimed_within c sized spare.0 claimed)
-        ∙ ap (λ n. set old n (get_or key n 0)) may.next in
+    get_or-set_same c.entries spare.0 (set old word (get_or key word 0)) [] (claimed_within c sized spare.0 claimed)
+    ∙ ap (λ n. set old n (get_or key n 0)) may.next in
     ap (take (call.stored + 1)) here
     ∙ (take_more_set old call.stored (get_or key call.stored 0) (omega arith)
     ∙ (ap (λ l. l ++ get_or key call.stored 0 ∷ []) ((was.search call may.in_call).stored spare may.has_spare)
@@ -141,10 +141,10 @@ in_spare c i word sized sound (Some call) None is has = keeps_same c sized sound
 in_spare c i word sized sound (Some call) (Some spare) is has =
     cond_both (can_store word call (seat_at c i)) _ c (Keeps c)
     (λ can. let all = and_parts (seat_at c i).live _ can in
-        let words = and_parts (eqb word call.stored) (ltb word 5) (and_parts call.empty _ all.1).1 in
-        let same = eqb-true word call.stored words.0 in
-        let low = ltb-true word 5 words.1 in
-        stores c i call spare word sized sound record { live = all.0; in_call = is; has_spare = has; next = same; below = omega arith })
+    let words = and_parts (eqb word call.stored) (ltb word 5) (and_parts call.empty _ all.1).1 in
+    let same = eqb-true word call.stored words.0 in
+    let low = ltb-true word 5 words.1 in
+    stores c i call spare word sized sound record { live = all.0; in_call = is; has_spare = has; next = same; below = omega arith })
     (λ _. keeps_same c sized sound)
 
 -- a word that is stored keeps the invariant

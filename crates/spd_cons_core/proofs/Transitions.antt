@@ -47,11 +47,11 @@ exchanged_bucket c sized sound i b (Some call) (Some spare) is has =
         let search = was.search call is in
         let whole = eqb-true call.stored 5 stored in
         let words : entry_words c spare.0 ≡ words_of call.key = same_of_five (entry_words c spare.0) (words_of call.key) (five_of_entry c sized spare.0 (was.spare spare has).claimed) (five_of_key call.key)
-            (subst (λ n. take n (entry_words c spare.0) ≡ take n (words_of call.key)) whole (search.stored spare has)) in
+        (subst (λ n. take n (entry_words c spare.0) ≡ take n (words_of call.key)) whole (search.stored spare has)) in
         ⊎_elim
         (λ (here : b ≡ call.at).
-            let now : get_or (set c.buckets call.at (cond (eqb (bucket c call.at) 0) (spare.0 + 1) (bucket c call.at))) call.at 0 ≡ cond (eqb (bucket c call.at) 0) (spare.0 + 1) (bucket c call.at) = get_or-set_same c.buckets call.at _ 0 search.at_bucket in
-            by_bucket (eqb (bucket c call.at) 0) refl here now live words)
+        let now : get_or (set c.buckets call.at (cond (eqb (bucket c call.at) 0) (spare.0 + 1) (bucket c call.at))) call.at 0 ≡ cond (eqb (bucket c call.at) 0) (spare.0 + 1) (bucket c call.at) = get_or-set_same c.buckets call.at _ 0 search.at_bucket in
+        by_bucket (eqb (bucket c call.at) 0) refl here now live words)
         (λ (other : b ≡ call.at → ⊥). absurd (changed (get_or-set_other c.buckets call.at b _ 0 other)))
         (cases_eq b call.at)
       where
@@ -123,9 +123,9 @@ goes_on c sized sound i call e live is found back =
     let names = (search.found e found).0 in
     let at = search.at_bucket in
     let full : (b : ℕ) → b < bucket_count c → bucket c b ≢ 0 = λ b within. ⊎_elim
-        (λ (here : b ≡ call.at) (zero : bucket c b ≡ 0). let n : 0 ≡ e.0 + 1 = sym zero ∙ (ap (bucket c) here ∙ names) in absurd (omega arith))
-        (λ (other : b ≡ call.at → ⊥) (zero : bucket c b ≡ 0). let o = search.passed b within (round b within other) in let n = o.names in absurd (omega arith))
-        (cases_eq b call.at) in
+    (λ (here : b ≡ call.at) (zero : bucket c b ≡ 0). let n : 0 ≡ e.0 + 1 = sym zero ∙ (ap (bucket c) here ∙ names) in absurd (omega arith))
+    (λ (other : b ≡ call.at → ⊥) (zero : bucket c b ≡ 0). let o = search.passed b within (round b within other) in let n = o.names in absurd (omega arith))
+    (cases_eq b call.at) in
     let all : filled c ≡ bucket_count c = all_filled c.buckets full in
     let counted = sound.all_counted in
     let low = sized.limit_low in

@@ -37,26 +37,28 @@ abbrev pub can_load_bucket : Key → Seat → Bool
 can_load_bucket key seat =
     seat.live && option_map_or (λ call. same_key call.key key && (is_none call.found && not call.empty)) seat.call (parts_known seat.knows key)
 
--- the seat after the bucket of its call was loaded: a filled one is found; an empty one is noted, or
--- ends the call where the seat has no spare and can't claim one
+-- the seat after the bucket of its call was seen to be empty, which ends the call where the seat has
+-- no spare and can't claim one
+abbrev pub after_empty : Call → Seat → Seat
+after_empty call seat =
+    if is_none seat.spare && seat.ended
+    then record seat { call = None; last = Full }
+    else record seat { call = Some (record call { empty = true }) }
+
+-- the seat after the bucket of its call was loaded: the entry that a filled one names is found
 abbrev pub after_bucket : Call → ℕ → Seat → Seat
 after_bucket call loaded seat =
-    if loaded == 0 then
-      if is_none seat.spare && seat.ended then
-        record seat { call = None; last = Full }
-      else
-        record seat { call = Some (record call { empty = true }) }
-    else
-      record seat { call = Some (record call { found = Some (entry (loaded - 1)) }) }
+    if loaded == 0
+    then after_empty call seat
+    else record seat { call = Some (record call { found = Some (entry (loaded - 1)) }) }
 
 abbrev pub load_bucket : Machine → ℕ → Key → Machine
 load_bucket c i key =
     let seat = seat_at c i in
     let call = call_for (bucket_count c) key seat in
-    if can_load_bucket key seat then
-      with_seat c i (after_bucket call (bucket c call.at) seat)
-    else
-      c
+    if can_load_bucket key seat
+    then with_seat c i (after_bucket call (bucket c call.at) seat)
+    else c
 
 -- Claim ----------------------------------------------------------------------------------------
 
@@ -68,18 +70,16 @@ can_claim seat = seat.live && (option_map_or (λ call. call.empty) seat.call fal
 -- seat has met the end and its call is over
 abbrev pub after_claim : ℕ → ℕ → Seat → Seat
 after_claim end claims seat =
-    if nat_lt claims end then
-      record seat { spare = Some (entry claims); unpublished = seat.unpublished + 1 }
-    else
-      record seat { ended = true; call = None; last = Full }
+    if nat_lt claims end
+    then record seat { spare = Some (entry claims); unpublished = seat.unpublished + 1 }
+    else record seat { ended = true; call = None; last = Full }
 
 abbrev pub claim : Machine → ℕ → Machine
 claim c i =
     let seat = seat_at c i in
-    if can_claim seat then
-      record c { claims = c.claims + 1; seats = slice_set c.seats i (after_claim (c.limit + c.most) c.claims seat) }
-    else
-      c
+    if can_claim seat
+    then record c { claims = c.claims + 1; seats = slice_set c.seats i (after_claim (c.limit + c.most) c.claims seat) }
+    else c
 
 -- StoreContent ---------------------------------------------------------------------------------
 
@@ -91,13 +91,12 @@ can_store word call seat = seat.live && (call.empty && ((word == call.stored) &&
 abbrev pub store_in : Machine → ℕ → ℕ → Option Call → Option Entry → Machine
 store_in c i word (Some call) (Some spare) =
     let seat = seat_at c i in
-    if can_store word call seat then
-      record c {
-        entries = slice_set c.entries spare.0 (slice_set (entry_words c spare.0) word (slice_index (words_of call.key) word));
-        seats = slice_set c.seats i (record seat { call = Some (record call { stored = call.stored + 1 }) });
-      }
-    else
-      c
+    if can_store word call seat
+    then record c {
+      entries = slice_set c.entries spare.0 (slice_set (entry_words c spare.0) word (slice_index (words_of call.key) word));
+      seats = slice_set c.seats i (record seat { call = Some (record call { stored = call.stored + 1 }) });
+    }
+    else c
 store_in c i word (Some call) None = c
 store_in c i word None spare = c
 
@@ -114,30 +113,28 @@ can_exchange call seat = seat.live && (call.empty && (call.stored == 5))
 -- that another seat published there before
 abbrev pub after_exchange : Call → Entry → ℕ → Seat → Seat
 after_exchange call spare found seat =
-    if found == 0 then
-      record seat {
-        knows = learned seat.knows (record { entry = spare; key = call.key });
-        published = seat.published ++ spare ∷ [];
-        spare = None;
-        unpublished = seat.unpublished - 1;
-        call = None;
-        last = Got spare;
-      }
-    else
-      record seat { call = Some (record call { found = Some (entry (found - 1)); empty = false }) }
+    if found == 0
+    then record seat {
+      knows = learned seat.knows (record { entry = spare; key = call.key });
+      published = seat.published ++ spare ∷ [];
+      spare = None;
+      unpublished = seat.unpublished - 1;
+      call = None;
+      last = Got spare;
+    }
+    else record seat { call = Some (record call { found = Some (entry (found - 1)); empty = false }) }
 
 -- only an empty bucket takes the spare
 abbrev pub exchange_in : Machine → ℕ → Option Call → Option Entry → Machine
 exchange_in c i (Some call) (Some spare) =
     let seat = seat_at c i in
     let found = bucket c call.at in
-    if can_exchange call seat then
-      record c {
-        buckets = slice_set c.buckets call.at (if found == 0 then spare.0 + 1 else found);
-        seats = slice_set c.seats i (after_exchange call spare found seat);
-      }
-    else
-      c
+    if can_exchange call seat
+    then record c {
+      buckets = slice_set c.buckets call.at (if found == 0 then spare.0 + 1 else found);
+      seats = slice_set c.seats i (after_exchange call spare found seat);
+    }
+    else c
 exchange_in c i (Some call) None = c
 exchange_in c i None spare = c
 
@@ -155,26 +152,28 @@ can_compare e word call seat =
 abbrev pub next_bucket : ℕ → ℕ → ℕ
 next_bucket count at = if nat_lt (at + 1) count then at + 1 else 0
 
--- the seat after it compared a word of the entry that it found: five equal words are the key, and an
--- unequal one sends the search on to the next bucket
+-- the seat after one more word of the entry that it found was the key's: five of them are the key
+abbrev pub after_equal : Entry → Call → Seat → Seat
+after_equal e call seat =
+    if call.right + 1 == 5
+    then record seat { knows = learned seat.knows (record { entry = e; key = call.key }); call = None; last = Got e }
+    else record seat { call = Some (record call { right = call.right + 1 }) }
+
+-- the seat after it compared a word of the entry that it found: an unequal one sends the search on to
+-- the next bucket
 abbrev pub after_content : ℕ → Entry → Call → ℕ → Seat → Seat
 after_content count e call loaded seat =
-    if loaded == slice_index (words_of call.key) call.right then
-      if call.right + 1 == 5 then
-        record seat { knows = learned seat.knows (record { entry = e; key = call.key }); call = None; last = Got e }
-      else
-        record seat { call = Some (record call { right = call.right + 1 }) }
-    else
-      record seat { call = Some (record call { at = next_bucket count call.at; found = None; right = 0 }) }
+    if loaded == slice_index (words_of call.key) call.right
+    then after_equal e call seat
+    else record seat { call = Some (record call { at = next_bucket count call.at; found = None; right = 0 }) }
 
 -- outside a call this is a step of reading an entry that is known, and changes nothing
 abbrev pub compare_in : Machine → ℕ → Entry → ℕ → Option Call → Machine
 compare_in c i e word (Some call) =
     let seat = seat_at c i in
-    if can_compare e word call seat then
-      with_seat c i (after_content (bucket_count c) e call (slice_index (entry_words c e.0) word) seat)
-    else
-      c
+    if can_compare e word call seat
+    then with_seat c i (after_content (bucket_count c) e call (slice_index (entry_words c e.0) word) seat)
+    else c
 compare_in c i e word None = c
 
 abbrev pub load_content : Machine → ℕ → Entry → ℕ → Machine
@@ -197,10 +196,9 @@ split_off seat = record spent { live = true; knows = seat.knows; stands = 1 }
 abbrev pub split : Machine → ℕ → Machine
 split c i =
     let seat = seat_at c i in
-    if can_split seat then
-      record c { seats = slice_set c.seats i (after_split seat) ++ split_off seat ∷ [] }
-    else
-      c
+    if can_split seat
+    then record c { seats = slice_set c.seats i (after_split seat) ++ split_off seat ∷ [] }
+    else c
 
 -- Join -----------------------------------------------------------------------------------------
 
@@ -230,10 +228,9 @@ abbrev pub join : Machine → ℕ → ℕ → Machine
 join c i j =
     let seat = seat_at c i in
     let other = seat_at c j in
-    if can_join i j seat other then
-      record c { seats = slice_set (slice_set c.seats i (after_join seat other)) j spent }
-    else
-      c
+    if can_join i j seat other
+    then record c { seats = slice_set (slice_set c.seats i (after_join seat other)) j spent }
+    else c
 
 -- The machine ----------------------------------------------------------------------------------
 

@@ -59,11 +59,9 @@ pub record IsSearch (c : Machine) (seat : Seat) (call : Call) : Type 0 where
   pub parts : IsTrue (parts_known seat.knows call.key)
   pub at_bucket : call.at < bucket_count c
   pub passed : (b : ℕ) → b < bucket_count c → IsPassed (start_of (words_of call.key) (bucket_count c)) call.at b → IsOther c call.key b
-
   -- what was found stands in the bucket still, and as many of its first words as were found right are the key's
   pub found : (e : Entry) → call.found ≡ Some e → Names c call.at e.0 × (take call.right (entry_words c e.0) ≡ take call.right (words_of call.key))
   pub none_right : call.found ≡ None → call.right ≡ 0
-
   -- as many of the spare's first words as were stored are the key's
   pub stored : (e : Entry) → seat.spare ≡ Some e → take call.stored (entry_words c e.0) ≡ take call.stored (words_of call.key)
   pub none_stored : seat.spare ≡ None → call.stored ≡ 0
@@ -109,22 +107,16 @@ pub record IsSound (c : Machine) : Type 0 where
   pub named_once : (a b e : ℕ) → Names c a e → Names c b e → a ≡ b
   pub listed_once : (b e : ℕ) → Names c b e → total (times_listed e) c ≡ 1
   pub listed_never : (e : ℕ) → ((b : ℕ) → bucket c b ≢ e + 1) → total (times_listed e) c ≡ 0
-
   -- all buckets from the start of a published entry's key to its own are filled
   pub filled_from_start : (b e k : ℕ) → Names c b e → k < bucket_count c → IsPassed (start_of (entry_words c e) (bucket_count c)) b k → bucket c k ≢ 0
-
   -- two filled buckets name entries of different keys
   pub distinct_keys : (a b d e : ℕ) → Names c a d → Names c b e → entry_words c d ≡ entry_words c e → a ≡ b
-
   pub seats : (i : ℕ) → IsTrue (seat_at c i).live → IsSeat c (seat_at c i)
-
   -- no entry is the spare of two live seats
   pub own_spare : (i j : ℕ) (e : Entry) → IsTrue (seat_at c i).live → IsTrue (seat_at c j).live → (seat_at c i).spare ≡ Some e → (seat_at c j).spare ≡ Some e → i ≡ j
-
   -- the seats count each entry that is claimed and not published, and list each that is published
   pub all_counted : total (λ seat. seat.unpublished) c + filled c ≡ min c.claims (c.limit + c.most)
   pub all_listed : total (λ seat. length seat.published) c ≡ filled c
-
   -- the seats together are as many as may be made, and each claims at most once past the end
   pub all_seats : total shares c ≡ c.most
   pub claims_bound : c.claims ≤ (c.limit + c.most) + total stands_at_end c

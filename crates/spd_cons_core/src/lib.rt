@@ -12,12 +12,14 @@ mod seat;
 mod spelling;
 mod steps;
 mod table;
+#[cfg(test)]
+mod tests;
 
 pub use event::Event;
 pub use key::{Entry, Key};
 pub use mind::{Call, Known, Last, Mind};
-pub use steps::{run, step};
 pub use spelling::{start_bucket, words_of};
+pub use steps::{run, step};
 pub use table::{Core, Words};
 
 /// Want of memory.

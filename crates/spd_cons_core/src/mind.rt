@@ -65,16 +65,16 @@ impl Model for Mind {
     ghost Value = { Seat };
 
     ghost view = { λ m. record {
-        live = m.live;
-        knows = m.knows.items;
-        published = m.published.items;
-        spare = m.spare;
-        unpublished = m.unpublished;
-        stands = m.stands;
-        splits = m.splits;
-        ended = m.ended;
-        call = m.call;
-        last = m.last;
+      live = m.live;
+      knows = m.knows.items;
+      published = m.published.items;
+      spare = m.spare;
+      unpublished = m.unpublished;
+      stands = m.stands;
+      splits = m.splits;
+      ended = m.ended;
+      call = m.call;
+      last = m.last;
     } };
 }
 

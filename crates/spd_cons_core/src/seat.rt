@@ -1,26 +1,26 @@
 //! What a seat learns from each of its steps.
-use crate::key::{Entry, Key};
-use crate::mind::{Call, Known, Last, Mind};
-use crate::spelling::words_of;
-use crate::Memory;
-use std::alloc::Global;
-
 ghost use Rattle.std.specs.Prelude.{◌≡◌, ◌+◌, ◌^◌, ◌<◌, ◌≤◌, IfOk, OnOk, slice_index, ◌&&◌, is_none};
 ghost use Rattle.std.specs.List.{fold};
 ghost use Rattle.spd_cons_core.specs.Spelling.{words_of};
 ghost use Rattle.spd_cons_core.specs.Seats.{entry, is_known, parts_known, learned};
 ghost use Rattle.spd_cons_core.specs.Events.{can_load_bucket, after_bucket, can_claim, after_claim, can_store, can_exchange, can_compare, after_exchange, next_bucket, after_content, can_split, after_split, split_off, after_join};
 
+use crate::Memory;
+use crate::key::{Entry, Key};
+use crate::mind::{Call, Known, Last, Mind};
+use crate::spelling::words_of;
+use std::alloc::Global;
+
 impl Mind {
     /// Whether the seat knows an entry.
-    pub fn knows_entry(&self, entry: Entry) -> bool
+    pub(crate) fn knows_entry(&self, entry: Entry) -> bool
         ensures { result ≡ is_known self.now.knows entry }
     {
         self.knows.iter().any(|known| known.entry.0 == entry.0)
     }
 
     /// Whether the seat knows the entries in a key.
-    pub fn knows_parts(&self, key: &Key) -> bool
+    pub(crate) fn knows_parts(&self, key: &Key) -> bool
         ensures { result ≡ parts_known self.now.knows key.now }
     {
         match *key {
@@ -65,7 +65,10 @@ impl Mind {
     pub(crate) fn can_compare(&self, entry: Entry, word: u8, call: &Call) -> bool
         ensures { result ≡ can_compare entry word call.now self.now }
     {
-        self.live && call.found.is_some_and(|found| found.0 == entry.0) && word == call.right && word < 5
+        self.live
+            && call.found.is_some_and(|found| found.0 == entry.0)
+            && word == call.right
+            && word < 5
     }
 
     /// Whether two seats are live and in no call.
@@ -114,13 +117,16 @@ impl Mind {
             self.call = None;
             self.last = Last::Full;
         } else {
-            self.call = Some(Call { empty: true, ..call });
+            self.call = Some(Call {
+                empty: true,
+                ..call
+            });
         }
     }
 
     /// Takes what a claim found in the claim word. `end` is the number of entries.
     pub(crate) fn see_claim(&mut self, end: u64, claims: u64)
-        requires end { end ≤ 2 ^ 32 }
+        requires end { end < 2 ^ 32 }
         requires fits { self.old.unpublished + 1 < 2 ^ 32 }
         ensures { self.new ≡ after_claim end claims self.old }
     {
@@ -135,16 +141,28 @@ impl Mind {
     }
 
     /// Takes what an exchange of the spare into the bucket of its call found there.
-    pub(crate) fn see_exchange(&mut self, call: Call, spare: Entry, found: u64) -> Result<(), Memory>
+    pub(crate) fn see_exchange(
+        &mut self,
+        call: Call,
+        spare: Entry,
+        found: u64,
+    ) -> Result<(), Memory>
         requires { found ≤ 2 ^ 32 }
         ensures { OnOk result (self.new ≡ after_exchange call spare found self.old) }
     {
         if found != 0 {
             let found = Some(Entry((found - 1) as u32));
-            self.call = Some(Call { found, empty: false, ..call });
+            self.call = Some(Call {
+                found,
+                empty: false,
+                ..call
+            });
             return Ok(());
         }
-        self.learn(Known { entry: spare, key: call.key })?;
+        self.learn(Known {
+            entry: spare,
+            key: call.key,
+        })?;
         self.published.push(spare)?;
         self.spare = None;
         self.unpublished = self.unpublished.saturating_sub(1);
@@ -154,20 +172,37 @@ impl Mind {
     }
 
     /// Takes one word of the entry that its call has found. `count` is the number of buckets.
-    pub(crate) fn see_content(&mut self, count: u64, entry: Entry, call: Call, loaded: u64) -> Result<(), Memory>
+    pub(crate) fn see_content(
+        &mut self,
+        count: u64,
+        entry: Entry,
+        call: Call,
+        loaded: u64,
+    ) -> Result<(), Memory>
         requires right { call.right < 5 }
         requires at { call.at < count }
         ensures { OnOk result (self.new ≡ after_content count entry call loaded self.old) }
     {
         if loaded != words_of(&call.key).0[call.right as usize] {
             let at = if call.at + 1 < count { call.at + 1 } else { 0 };
-            self.call = Some(Call { at, found: None, right: 0, ..call });
+            self.call = Some(Call {
+                at,
+                found: None,
+                right: 0,
+                ..call
+            });
         } else if call.right + 1 == 5 {
-            self.learn(Known { entry, key: call.key })?;
+            self.learn(Known {
+                entry,
+                key: call.key,
+            })?;
             self.call = None;
             self.last = Last::Got(entry);
         } else {
-            self.call = Some(Call { right: call.right + 1, ..call });
+            self.call = Some(Call {
+                right: call.right + 1,
+                ..call
+            });
         }
         Ok(())
     }
@@ -179,7 +214,12 @@ impl Mind {
     {
         let knows = self.knows.clone()?;
         self.splits = self.splits.saturating_sub(1);
-        Ok(Mind { live: true, knows, stands: 1, ..Mind::spent(alloc) })
+        Ok(Mind {
+            live: true,
+            knows,
+            stands: 1,
+            ..Mind::spent(alloc)
+        })
     }
 
     /// Takes over all that another seat has.

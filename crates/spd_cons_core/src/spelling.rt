@@ -1,9 +1,9 @@
 //! How a key is spelled in five words, and where its search starts.
-use crate::key::{Entry, Key};
-use crate::table::Words;
-
 ghost use Rattle.std.specs.Prelude.{◌≡◌, ◌*◌, ◌/◌, ◌%◌, ◌^◌, ◌<◌, ◌≤◌};
 ghost use Rattle.spd_cons_core.specs.Spelling.{words_of, low, high, mixed, hash_of, start_of, IsKey};
+
+use crate::key::{Entry, Key};
+use crate::table::Words;
 
 /// The golden ratio's 64 bits, by which a multiplicative hash spreads its input (Knuth, The Art of
 /// Computer Programming, volume 3).
@@ -36,7 +36,13 @@ pub fn words_of(key: &Key) -> Words
     ensures in_range { IsKey key.now }
 {
     match *key {
-        Key::Test { level, yes, no } => Words([1 + 16 * u64::from(level), entry_word(yes), entry_word(no), 0, 0]),
+        Key::Test { level, yes, no } => Words([
+            1 + 16 * u64::from(level),
+            entry_word(yes),
+            entry_word(no),
+            0,
+            0,
+        ]),
         Key::Num(n) => {
             let (low, high) = halves(n);
             Words([2, low, high, 0, 0])

@@ -1,23 +1,27 @@
 //! The machine after an event.
-use crate::event::Event;
-use crate::key::{Entry, Key};
-use crate::mind::{Call, Mind};
-use crate::spelling::{start_bucket, words_of};
-use crate::table::Core;
-use crate::Memory;
-use std::alloc::Global;
-
 ghost use Rattle.std.specs.Prelude.{◌≡◌, ℕ, ◌+◌, ◌^◌, ◌<◌, ◌≤◌, ◌↔◌, IfOk, OnOk, IfSome, IsSome, IsTrue, length, ◌==◌, if◌then◌else◌, slice_index};
 ghost use Rattle.spd_cons_core.specs.Spelling.{IsKey};
 ghost use Rattle.spd_cons_core.specs.Seats.{seat_at, with_seat, spent, bucket, bucket_count, entry_words};
 ghost use Rattle.spd_cons_core.specs.Events.{can_load_bucket, call_for, load_bucket, claim, store_content, exchange_bucket, load_content, split, after_join, join, step, run};
 ghost use Rattle.spd_cons_core.specs.Invariants.{IsSized, IsSound, Keeps};
 
+use crate::Memory;
+use crate::event::Event;
+use crate::key::{Entry, Key};
+use crate::mind::{Call, Mind};
+use crate::spelling::{start_bucket, words_of};
+use crate::table::Core;
+use std::alloc::Global;
+
 /// What an exchange leaves in a bucket where it found this number: only an empty one takes the entry.
 fn exchanged(found: u64, spare: Entry) -> u64
     ensures { result ≡ (if found == 0 then spare.0 + 1 else found) }
 {
-    if found == 0 { u64::from(spare.0) + 1 } else { found }
+    if found == 0 {
+        u64::from(spare.0) + 1
+    } else {
+        found
+    }
 }
 
 impl Core {
@@ -155,7 +159,10 @@ impl Core {
         let words = &mut self.entries[spare.0 as usize];
         words.0[word as usize] = words_of(&call.key).0[word as usize];
         let mind = &mut self.seats[seat];
-        mind.call = Some(Call { stored: call.stored + 1, ..call });
+        mind.call = Some(Call {
+            stored: call.stored + 1,
+            ..call
+        });
     }
 
     #[tactic(auto, using(crate::proofs::Taken::exchange_taken))]

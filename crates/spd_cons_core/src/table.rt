@@ -1,6 +1,6 @@
 //! The state of the machine.
-use crate::mind::Mind;
 use crate::Memory;
+use crate::mind::Mind;
 use std::alloc::Global;
 use std::marker::Model;
 
@@ -39,12 +39,12 @@ impl Model for Core {
     ghost Value = { Machine };
 
     ghost view = { λ c. record {
-        limit = c.limit;
-        most = c.most;
-        claims = c.claims;
-        buckets = c.buckets.items;
-        entries = c.entries.items;
-        seats = c.seats.items;
+      limit = c.limit;
+      most = c.most;
+      claims = c.claims;
+      buckets = c.buckets.items;
+      entries = c.entries.items;
+      seats = c.seats.items;
     } };
 }
 
@@ -69,7 +69,12 @@ impl Core {
         let buckets = vec![in alloc; 0; count]?;
         let entries = vec![in alloc; Words([0; 5]); (limit + seats) as usize]?;
         let mut minds = Vec::with_capacity(alloc, 1)?;
-        minds.push(Mind { live: true, stands: 1, splits: seats - 1, ..Mind::spent(alloc) })?;
+        minds.push(Mind {
+            live: true,
+            stands: 1,
+            splits: seats - 1,
+            ..Mind::spent(alloc)
+        })?;
         Ok(Core {
             limit,
             most: seats,

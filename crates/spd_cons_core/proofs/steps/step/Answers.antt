@@ -20,7 +20,7 @@ pub returns-clause-keeps : goal.returns-clause-keeps
 returns-clause-keeps c =
     let now : Machine = c.args.core in
     elim c.match-event.branch [
-      in-LoadBucket w ↦ along now (load_bucket now w.in-LoadBucket.seat w.in-LoadBucket.key) _ (w.core-is ∙ w.load_bucket.ensures.exact)
+      | in-LoadBucket w ↦ along now (load_bucket now w.in-LoadBucket.seat w.in-LoadBucket.key) _ (w.core-is ∙ w.load_bucket.ensures.exact)
           (taken_load_keeps now w.in-LoadBucket.seat w.in-LoadBucket.key c.requires.sized c.requires.sound w.load_bucket.ensures.in_range)
       | in-Claim w ↦ along now (claim now w.in-Claim.seat) _ (w.core-is ∙ w.claim.ensures) (claim_keeps now w.in-Claim.seat c.requires.sized c.requires.sound)
       | in-StoreContent w ↦ along now (store_content now w.in-StoreContent.seat w.in-StoreContent.word) _ (w.core-is ∙ w.store_content.ensures)
