@@ -52,6 +52,7 @@ after_bucket call loaded seat =
     then after_empty call seat
     else record seat { call = Some (record call { found = Some (entry (loaded - 1)) }) }
 
+-- LoadBucket: a call goes on, or begins, by a look into its bucket
 abbrev pub load_bucket : Machine → ℕ → Key → Machine
 load_bucket c i key =
     let seat = seat_at c i in
@@ -74,6 +75,7 @@ after_claim end claims seat =
     then record seat { spare = Some (entry claims); unpublished = seat.unpublished + 1 }
     else record seat { ended = true; call = None; last = Full }
 
+-- Claim: the claim number rises by 1, and the seat takes what it was
 abbrev pub claim : Machine → ℕ → Machine
 claim c i =
     let seat = seat_at c i in
@@ -100,6 +102,7 @@ store_in c i word (Some call) (Some spare) =
 store_in c i word (Some call) None = c
 store_in c i word None spare = c
 
+-- StoreContent: a word of the key of the seat's call, stored in the seat's spare
 abbrev pub store_content : Machine → ℕ → ℕ → Machine
 store_content c i word = store_in c i word (seat_at c i).call (seat_at c i).spare
 
@@ -138,6 +141,7 @@ exchange_in c i (Some call) (Some spare) =
 exchange_in c i (Some call) None = c
 exchange_in c i None spare = c
 
+-- ExchangeBucket: the seat's spare, put into the bucket of its call
 abbrev pub exchange_bucket : Machine → ℕ → Machine
 exchange_bucket c i = exchange_in c i (seat_at c i).call (seat_at c i).spare
 
@@ -176,6 +180,7 @@ compare_in c i e word (Some call) =
     else c
 compare_in c i e word None = c
 
+-- LoadContent: a word of the entry that the seat's call has found, compared with the key's
 abbrev pub load_content : Machine → ℕ → Entry → ℕ → Machine
 load_content c i e word = compare_in c i e word (seat_at c i).call
 
@@ -193,6 +198,7 @@ after_split seat = record seat { splits = seat.splits - 1 }
 abbrev pub split_off : Seat → Seat
 split_off seat = record spent { live = true; knows = seat.knows; stands = 1 }
 
+-- Split: a new seat is added behind the others
 abbrev pub split : Machine → ℕ → Machine
 split c i =
     let seat = seat_at c i in
@@ -224,6 +230,7 @@ after_join seat other = record seat {
   ended = seat.ended || other.ended;
 }
 
+-- Join: the first seat takes the other one over, which is then spent
 abbrev pub join : Machine → ℕ → ℕ → Machine
 join c i j =
     let seat = seat_at c i in

@@ -42,8 +42,8 @@ pub record IsSpare (c : Machine) (seat : Seat) (e : Entry) : Type 0 where
   pub unpublished : (b : ℕ) → bucket c b ≢ e.0 + 1
   pub counted : 1 ≤ seat.unpublished
 
--- the bucket k is among those that a search has passed which started at one bucket, wraps behind the
--- last one and has come to another
+-- a search that started at one bucket and has come to another has passed this bucket on its way; behind
+-- the last bucket it goes on at the first
 abbrev pub IsPassed : ℕ → ℕ → ℕ → Type 0
 IsPassed start at k = ((start ≤ k) × (k < at)) ⊎ (((at < start) × (start ≤ k)) ⊎ ((at < start) × (k < at)))
 
@@ -111,6 +111,7 @@ pub record IsSound (c : Machine) : Type 0 where
   pub filled_from_start : (b e k : ℕ) → Names c b e → k < bucket_count c → IsPassed (start_of (entry_words c e) (bucket_count c)) b k → bucket c k ≢ 0
   -- two filled buckets name entries of different keys
   pub distinct_keys : (a b d e : ℕ) → Names c a d → Names c b e → entry_words c d ≡ entry_words c e → a ≡ b
+  -- each live seat has what it needs
   pub seats : (i : ℕ) → IsTrue (seat_at c i).live → IsSeat c (seat_at c i)
   -- no entry is the spare of two live seats
   pub own_spare : (i j : ℕ) (e : Entry) → IsTrue (seat_at c i).live → IsTrue (seat_at c j).live → (seat_at c i).spare ≡ Some e → (seat_at c j).spare ≡ Some e → i ≡ j

@@ -32,6 +32,7 @@ seat_at c i = slice_index_or c.seats i spent
 abbrev pub with_seat : Machine → ℕ → Seat → Machine
 with_seat c i seat = record c { seats = slice_set c.seats i seat }
 
+-- how many buckets there are
 abbrev pub bucket_count : Machine → ℕ
 bucket_count c = length c.buckets
 
@@ -47,6 +48,7 @@ Names c k e = bucket c k ≡ e + 1
 abbrev pub entry_words : Machine → ℕ → List ℕ
 entry_words c e = slice_index_or c.entries e []
 
+-- the entry of this number
 abbrev pub entry : ℕ → Entry
 entry e = record { 0 = e }
 
