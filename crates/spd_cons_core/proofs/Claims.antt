@@ -1,18 +1,13 @@
 -- The law of a claim.
-use Rattle.std.proofs.Common.{◌≡◌, ◌≢◌, ◌⊎◌, ℕ, ◌+◌, ◌-◌, ◌<◌, ◌≤◌, Bool, true, false, cond, not, ◌&&◌, eqb, ltb, min, List, [], ◌∷◌, take, length, get_or, set, Option, Some, None, is_none, refl, sym, ap, ◌∙◌, subst, inl, inr, ⊎_elim, arith}
-use Rattle.std.specs.List.{Contains}
-use Rattle.std.specs.Option.{option_map_or}
+use Rattle.std.proofs.Common.{◌≡◌, ◌≢◌, ℕ, ◌+◌, ◌<◌, ◌≤◌, Bool, true, false, cond, not, ltb, min, List, take, length, set, Option, Some, None, is_none, refl, sym, ap, ◌∙◌, arith}
 use Rattle.std.proofs.lemmas.Bool.{true≢false, and_parts, cond_both, ltb-true, ltb-false, not-true}
 use Rattle.spd_cons_core.specs.declared.key.Entry.{Entry}
-use Rattle.spd_cons_core.specs.declared.mind.Known.{Known}
-use Rattle.spd_cons_core.specs.declared.mind.Call.{Call}
-use Rattle.spd_cons_core.specs.declared.mind.Last.{Last}
 use Rattle.spd_cons_core.specs.declared.mind.Last.TheVariants.{Full}
 use Rattle.spd_cons_core.specs.Views.{Seat, Machine}
 use Rattle.spd_cons_core.specs.Spelling.{words_of}
-use Rattle.spd_cons_core.specs.Seats.{seat_at, with_seat, bucket, bucket_count, entry, entry_words, Names, is_known, parts_known}
-use Rattle.spd_cons_core.specs.Events.{can_claim, after_claim, claim}
-use Rattle.spd_cons_core.specs.Invariants.{IsSized, IsClaimed, IsSpare, IsKnown, IsSearch, IsSeat, IsSound, Keeps, total, times_listed, shares, stands_at_end, filled}
+use Rattle.spd_cons_core.specs.Seats.{seat_at, entry, entry_words}
+use Rattle.spd_cons_core.specs.Events.{can_claim, claim}
+use Rattle.spd_cons_core.specs.Invariants.{IsSized, IsSeat, IsSound, Keeps, total, times_listed, shares, stands_at_end}
 use Rattle.spd_cons_core.proofs.Writes.{total_set, total_same}
 use Rattle.spd_cons_core.proofs.Growth.{Grows, LeavesSpare, known_moved, search_moved, grow_claimed}
 use Rattle.spd_cons_core.proofs.Quiet.{keeps_same, none≢some, some_same, seats_changed, spares_changed, spare_kept}

@@ -1,5 +1,5 @@
 -- What follows from the invariant.
-use Rattle.std.proofs.Common.{to_z, ◌↔◌, ◌&&◌, ◌≡◌, ◌≢◌, ◌⊎◌, ℕ, zero, suc, ◌+◌, ◌-◌, ◌*◌, ◌/◌, ◌%◌, ◌^◌, ◌<◌, ◌≤◌, ℤ, Bool, true, false, cond, eqb, min, List, [], ◌∷◌, length, get_or, set, Option, Some, None, refl, sym, ap, ◌∙◌, subst, inl, inr, ⊎_elim, arith, sum_by, FitsSigned}
+use Rattle.std.proofs.Common.{to_z, ◌↔◌, ◌&&◌, ◌≡◌, ◌≢◌, ◌⊎◌, ℕ, ◌+◌, ◌*◌, ◌^◌, ◌<◌, ◌≤◌, ℤ, Bool, true, false, cond, eqb, length, get_or, set, refl, sym, ap, ◌∙◌, subst, inl, inr, arith, FitsSigned}
 use Rattle.std.specs.List.{All, Contains}
 use Rattle.std.specs.Int.{w128, cast_unsigned}
 use Rattle.std.proofs.lemmas.Bool.{true≢false, eqb-false, eqb-true, eq-eqb, and_from, and_parts, cases_Bool}
@@ -7,7 +7,7 @@ use Rattle.std.proofs.lemmas.Bool.Decides.{Decides-int_eq}
 use Rattle.std.specs.Ordering.{int_eq}
 use Rattle.std.proofs.lemmas.Int.{to_z-of_z}
 use Rattle.std.proofs.lemmas.Nat.{shr_split}
-use Rattle.std.proofs.lemmas.List.{get_or-set_other, length-set}
+use Rattle.std.proofs.lemmas.List.{get_or-set_other}
 use Rattle.std.proofs.lemmas.List.Elements.{All-from_get_or}
 use Rattle.std.proofs.lemmas.List.Sums.{sum_by-set, sum_by-le, get_or-le-sum_by}
 use Rattle.spd_cons_core.specs.declared.key.Entry.{Entry}
@@ -17,7 +17,7 @@ use Rattle.spd_cons_core.specs.declared.mind.Known.{Known}
 use Rattle.spd_cons_core.specs.Views.{Seat, Machine}
 use Rattle.spd_cons_core.specs.Spelling.{words_of, low, high, IsKey}
 use Rattle.spd_cons_core.specs.Seats.{spent, seat_at, bucket, Names, entry, entry_words, same_key}
-use Rattle.spd_cons_core.specs.Invariants.{IsSized, IsSound, total, shares, filled}
+use Rattle.spd_cons_core.specs.Invariants.{IsSound, total, shares}
 use Rattle.spd_cons_core.proofs.Writes.{set_cases, live_within, share_of, share_live}
 
 -- The words tell keys apart ---------------------------------------------------------------------

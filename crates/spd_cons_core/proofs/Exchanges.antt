@@ -1,8 +1,8 @@
 -- The law of an exchange.
-use Rattle.std.proofs.Common.{◌≡◌, ◌≢◌, ◌⊎◌, ℕ, ◌+◌, ◌-◌, ◌*◌, ◌<◌, ◌≤◌, Bool, true, false, cond, not, ◌&&◌, eqb, ltb, List, [], ◌∷◌, ◌++◌, take, length, get_or, set, Option, Some, None, refl, sym, ap, ◌∙◌, subst, inl, inr, ⊎_elim, arith}
+use Rattle.std.proofs.Common.{◌≡◌, ◌≢◌, ◌⊎◌, ℕ, ◌+◌, ◌-◌, ◌*◌, ◌<◌, ◌≤◌, Bool, true, false, cond, eqb, ltb, List, [], ◌∷◌, ◌++◌, take, length, get_or, set, Option, Some, None, refl, sym, ap, ◌∙◌, subst, inl, inr, ⊎_elim, arith}
 use Rattle.std.specs.List.{Contains, sum_by, count_by}
 use Rattle.std.specs.Int.{IsNextPowerOfTwo}
-use Rattle.std.proofs.lemmas.Bool.{and_parts, cond_both, eqb-true, eqb-false, ne_eqb, eq-eqb, cases_eq, cases_lt, lt-ltb, le-ltb}
+use Rattle.std.proofs.lemmas.Bool.{and_parts, cond_both, eqb-true, eqb-false, ne_eqb, eq-eqb, cases_eq, cases_lt, lt-ltb}
 use Rattle.std.proofs.lemmas.List.{get_or-set_same, get_or-set_other, get_or_past, length-set, length_push, set-get_or}
 use Rattle.std.proofs.lemmas.List.Elements.{Contains-push_cases}
 use Rattle.std.proofs.lemmas.List.Sums.{sum_by-set, sum_by_push}
@@ -12,11 +12,11 @@ use Rattle.spd_cons_core.specs.declared.mind.Call.{Call}
 use Rattle.spd_cons_core.specs.declared.mind.Last.TheVariants.{Got}
 use Rattle.spd_cons_core.specs.Views.{Seat, Machine}
 use Rattle.spd_cons_core.specs.Spelling.{words_of, start_of}
-use Rattle.spd_cons_core.specs.Seats.{spent, seat_at, with_seat, bucket, bucket_count, entry, entry_words, Names, is_known, learned}
-use Rattle.spd_cons_core.specs.Events.{can_exchange, after_exchange, exchange_in, exchange_bucket}
-use Rattle.spd_cons_core.specs.Invariants.{IsSized, IsClaimed, IsSpare, IsKnown, IsPassed, IsOther, IsSearch, IsSeat, IsSound, Keeps, total, times_listed, shares, stands_at_end, filled}
+use Rattle.spd_cons_core.specs.Seats.{seat_at, bucket, bucket_count, entry, entry_words, Names, is_known, learned}
+use Rattle.spd_cons_core.specs.Events.{can_exchange, exchange_in, exchange_bucket}
+use Rattle.spd_cons_core.specs.Invariants.{IsSized, IsClaimed, IsKnown, IsPassed, IsSearch, IsSeat, IsSound, Keeps, times_listed, shares, stands_at_end, filled}
 use Rattle.spd_cons_core.proofs.Writes.{total_set, total_same}
-use Rattle.spd_cons_core.proofs.Growth.{Grows, LeavesSpare, grow_claimed, grow_known}
+use Rattle.spd_cons_core.proofs.Growth.{Grows, grow_claimed, grow_known}
 use Rattle.spd_cons_core.proofs.Knowledge.{learned_keeps, learned_known}
 use Rattle.spd_cons_core.proofs.Quiet.{keeps_same, none≢some, some_same, seats_changed, spares_changed, call_keeps}
 use Rattle.spd_cons_core.proofs.Fives.{five_of_key, five_of_entry, same_of_five}

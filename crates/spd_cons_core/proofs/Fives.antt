@@ -1,13 +1,13 @@
 -- An entry and a key have five words, and two lists of five words are equal where their first five are.
-use Rattle.std.proofs.Common.{◌≡◌, ◌≢◌, ℕ, ◌+◌, ◌<◌, ◌≤◌, List, [], ◌∷◌, length, get_or, take, refl, sym, ap, ◌∙◌, arith}
+use Rattle.std.proofs.Common.{◌≡◌, ℕ, ◌<◌, List, [], length, take, refl, sym, ◌∙◌, arith}
 use Rattle.std.proofs.lemmas.List.{take_all}
 use Rattle.std.proofs.lemmas.List.Elements.{All-get_or}
 use Rattle.spd_cons_core.specs.declared.key.Key.{Key}
 use Rattle.spd_cons_core.specs.declared.key.Key.TheVariants.{Test, Num, Pair, Act}
 use Rattle.spd_cons_core.specs.Views.{Machine}
 use Rattle.spd_cons_core.specs.Spelling.{words_of}
-use Rattle.spd_cons_core.specs.Seats.{entry_words, Names}
-use Rattle.spd_cons_core.specs.Invariants.{IsSized, IsClaimed, IsSound}
+use Rattle.spd_cons_core.specs.Seats.{entry_words}
+use Rattle.spd_cons_core.specs.Invariants.{IsSized, IsClaimed}
 
 pub five_of_key : (key : Key) → length (words_of key) ≡ 5
 five_of_key (Test level on_yes on_no) = refl

@@ -1,14 +1,14 @@
 -- What holds of a seat goes on holding while other seats fill the table.
-use Rattle.std.proofs.Common.{◌≡◌, ◌≢◌, ℕ, ◌+◌, ◌<◌, ◌≤◌, Bool, true, false, List, Option, Some, None, take, refl, sym, ap, ◌∙◌, subst, arith}
+use Rattle.std.proofs.Common.{◌≡◌, ◌≢◌, ℕ, ◌+◌, ◌<◌, ◌≤◌, Some, None, take, refl, sym, ap, ◌∙◌, subst, arith}
 use Rattle.std.specs.List.{Contains}
 use Rattle.spd_cons_core.specs.declared.key.Entry.{Entry}
 use Rattle.spd_cons_core.specs.declared.key.Key.{Key}
 use Rattle.spd_cons_core.specs.declared.mind.Known.{Known}
 use Rattle.spd_cons_core.specs.declared.mind.Call.{Call}
 use Rattle.spd_cons_core.specs.Views.{Seat, Machine}
-use Rattle.spd_cons_core.specs.Spelling.{words_of, start_of, IsKey}
+use Rattle.spd_cons_core.specs.Spelling.{words_of, start_of}
 use Rattle.spd_cons_core.specs.Seats.{bucket, bucket_count, Names, entry_words, parts_known}
-use Rattle.spd_cons_core.specs.Invariants.{IsClaimed, IsKnown, IsSpare, IsPassed, IsOther, IsSearch, IsSeat}
+use Rattle.spd_cons_core.specs.Invariants.{IsClaimed, IsKnown, IsPassed, IsOther, IsSearch, IsSeat}
 
 -- the table after an event has all that it had
 pub record Grows (c d : Machine) : Type 0 where

@@ -1,6 +1,6 @@
 -- The law of a join.
-use Rattle.std.proofs.Common.{◌≡◌, ◌≢◌, ◌⊎◌, ℕ, ◌+◌, ◌-◌, ◌<◌, ◌≤◌, Bool, true, false, cond, not, ◌&&◌, ◌||◌, eqb, List, [], ◌∷◌, ◌++◌, take, length, get_or, set, Option, Some, None, is_none, refl, sym, ap, ◌∙◌, subst, inl, inr, ⊎_elim, arith}
-use Rattle.std.specs.List.{Contains, sum_by, count_by, fold}
+use Rattle.std.proofs.Common.{◌≡◌, ◌≢◌, ◌⊎◌, ℕ, ◌+◌, ◌≤◌, Bool, true, false, cond, not, ◌&&◌, ◌||◌, eqb, List, length, get_or, set, Option, Some, None, is_none, refl, sym, ap, ◌∙◌, inl, inr, ⊎_elim, arith}
+use Rattle.std.specs.List.{Contains, sum_by, fold}
 use Rattle.std.proofs.lemmas.Bool.{true≢false, and_parts, cond_both, or_cases, eqb-false, not-true, cases_eq}
 use Rattle.std.proofs.lemmas.List.{get_or-set_other, length-append}
 use Rattle.std.proofs.lemmas.List.Elements.{Contains-append_cases}
@@ -9,9 +9,9 @@ use Rattle.spd_cons_core.specs.declared.key.Entry.{Entry}
 use Rattle.spd_cons_core.specs.declared.mind.Known.{Known}
 use Rattle.spd_cons_core.specs.declared.mind.Call.{Call}
 use Rattle.spd_cons_core.specs.Views.{Seat, Machine}
-use Rattle.spd_cons_core.specs.Seats.{spent, seat_at, bucket, entry_words, Names, is_known, parts_known, learned}
+use Rattle.spd_cons_core.specs.Seats.{spent, seat_at, learned}
 use Rattle.spd_cons_core.specs.Events.{can_join, either_spare, after_join, join}
-use Rattle.spd_cons_core.specs.Invariants.{IsSized, IsSpare, IsKnown, IsSeat, IsSound, Keeps, total, times_listed, shares, stands_at_end}
+use Rattle.spd_cons_core.specs.Invariants.{IsSized, IsKnown, IsSeat, IsSound, Keeps, total, times_listed, shares, stands_at_end}
 use Rattle.spd_cons_core.proofs.Writes.{set_cases, live_within, total_set, share_of, share_live}
 use Rattle.spd_cons_core.proofs.Growth.{Grows, grow_claimed, grow_known, grow_seat}
 use Rattle.spd_cons_core.proofs.Knowledge.{joined_keeps, joined_known, joined_cases, parts_more}

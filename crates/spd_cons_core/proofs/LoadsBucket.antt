@@ -1,19 +1,16 @@
 -- The law of a bucket that is loaded.
-use Rattle.std.proofs.Common.{◌≡◌, ◌≢◌, ◌⊎◌, ℕ, zero, suc, ◌+◌, ◌-◌, ◌<◌, ◌≤◌, Bool, true, false, cond, not, ◌&&◌, eqb, List, [], ◌∷◌, take, length, Option, Some, None, is_none, unwrap_or, refl, sym, ap, ◌∙◌, subst, inl, inr, ⊎_elim, arith}
-use Rattle.std.specs.List.{Contains}
+use Rattle.std.proofs.Common.{◌≡◌, ◌≢◌, ℕ, ◌-◌, ◌<◌, Bool, true, not, ◌&&◌, eqb, take, Option, Some, None, is_none, unwrap_or, refl, sym, ap, ◌∙◌, arith}
 use Rattle.std.specs.Option.{option_map_or}
-use Rattle.std.proofs.lemmas.Bool.{true≢false, and_parts, cond_both, eqb-true, eqb-false}
+use Rattle.std.proofs.lemmas.Bool.{true≢false, and_parts, cond_both, eqb-false}
 use Rattle.spd_cons_core.specs.declared.key.Entry.{Entry}
 use Rattle.spd_cons_core.specs.declared.key.Key.{Key}
 use Rattle.spd_cons_core.specs.declared.mind.Call.{Call}
-use Rattle.spd_cons_core.specs.declared.mind.Known.{Known}
-use Rattle.spd_cons_core.specs.declared.mind.Last.{Last}
 use Rattle.spd_cons_core.specs.declared.mind.Last.TheVariants.{Full}
 use Rattle.spd_cons_core.specs.Views.{Seat, Machine}
 use Rattle.spd_cons_core.specs.Spelling.{IsKey, words_of, start_of}
 use Rattle.spd_cons_core.specs.Seats.{seat_at, with_seat, bucket, bucket_count, entry, entry_words, same_key, parts_known}
 use Rattle.spd_cons_core.specs.Events.{new_call, call_for, can_load_bucket, after_bucket, load_bucket}
-use Rattle.spd_cons_core.specs.Invariants.{IsSized, IsKnown, IsSearch, IsSeat, IsSound, Keeps}
+use Rattle.spd_cons_core.specs.Invariants.{IsSized, IsSearch, IsSound, Keeps}
 use Rattle.spd_cons_core.proofs.Quiet.{keeps_same, none≢some, some_same, call_keeps, end_keeps}
 use Rattle.spd_cons_core.proofs.Starts.{start_below, start_passes_none}
 

@@ -1,22 +1,20 @@
 -- The law of a word that is compared.
-use Rattle.std.proofs.Common.{◌≡◌, ◌≢◌, ◌⊎◌, ℕ, ◌+◌, ◌-◌, ◌<◌, ◌≤◌, Bool, true, false, cond, not, ◌&&◌, eqb, ltb, List, [], ◌∷◌, take, length, get_or, Option, Some, None, refl, sym, ap, ◌∙◌, subst, inl, inr, ⊎_elim, arith}
+use Rattle.std.proofs.Common.{◌≡◌, ◌≢◌, ℕ, ◌+◌, ◌<◌, true, false, eqb, ltb, take, get_or, Option, Some, None, refl, sym, ap, ◌∙◌, subst, ⊎_elim, arith}
 use Rattle.std.specs.List.{Contains}
 use Rattle.std.specs.Option.{option_map_or}
-use Rattle.std.proofs.lemmas.Bool.{true≢false, and_parts, cond_both, eqb-true, eqb-false, ltb-true, ltb-false}
+use Rattle.std.proofs.lemmas.Bool.{true≢false, and_parts, cond_both, eqb-true, eqb-false, ltb-true}
 use Rattle.std.proofs.lemmas.List.{take_more_same}
 use Rattle.spd_cons_core.specs.declared.key.Entry.{Entry}
-use Rattle.spd_cons_core.specs.declared.key.Key.{Key}
 use Rattle.spd_cons_core.specs.declared.mind.Known.{Known}
 use Rattle.spd_cons_core.specs.declared.mind.Call.{Call}
-use Rattle.spd_cons_core.specs.declared.mind.Last.{Last}
 use Rattle.spd_cons_core.specs.declared.mind.Last.TheVariants.{Got}
 use Rattle.spd_cons_core.specs.Views.{Seat, Machine}
-use Rattle.spd_cons_core.specs.Spelling.{IsKey, words_of, start_of}
-use Rattle.spd_cons_core.specs.Seats.{seat_at, with_seat, bucket, bucket_count, entry, entry_words, Names, is_known, parts_known, learned}
+use Rattle.spd_cons_core.specs.Spelling.{words_of, start_of}
+use Rattle.spd_cons_core.specs.Seats.{seat_at, with_seat, bucket, bucket_count, entry, entry_words, Names, parts_known, learned}
 use Rattle.spd_cons_core.specs.Events.{can_compare, next_bucket, after_content, compare_in, load_content}
-use Rattle.spd_cons_core.specs.Invariants.{IsSized, IsKnown, IsPassed, IsOther, IsSearch, IsSeat, IsSound, Keeps}
+use Rattle.spd_cons_core.specs.Invariants.{IsSized, IsKnown, IsSearch, IsSound, Keeps}
 use Rattle.spd_cons_core.proofs.Quiet.{keeps_same, none≢some, some_same, call_keeps, quiet_keeps}
-use Rattle.spd_cons_core.proofs.Knowledge.{learned_cases, learned_keeps, learned_known, parts_more}
+use Rattle.spd_cons_core.proofs.Knowledge.{learned_cases, learned_keeps, parts_more}
 use Rattle.spd_cons_core.proofs.Fives.{five_of_key, five_of_entry, same_of_five}
 use Rattle.spd_cons_core.proofs.Starts.{passed_next}
 

@@ -1,15 +1,15 @@
 -- An event that changes one seat's search and what it knows, and neither the table nor any count.
-use Rattle.std.proofs.Common.{◌≡◌, ◌≢◌, ◌⊎◌, ℕ, ◌+◌, ◌<◌, ◌≤◌, Bool, true, false, cond, List, [], ◌∷◌, ◌++◌, length, get_or, set, Option, Some, None, refl, sym, ap, ◌∙◌, subst, inl, inr, ⊎_elim, arith, sum_by}
+use Rattle.std.proofs.Common.{◌≡◌, ◌≢◌, ℕ, ◌+◌, ◌≤◌, true, cond, List, length, get_or, set, Option, Some, None, refl, sym, ap, ◌∙◌, subst, arith}
 use Rattle.std.specs.List.{Contains}
 use Rattle.spd_cons_core.specs.declared.key.Entry.{Entry}
 use Rattle.spd_cons_core.specs.declared.mind.Known.{Known}
 use Rattle.spd_cons_core.specs.declared.mind.Call.{Call}
 use Rattle.spd_cons_core.specs.declared.mind.Last.{Last}
 use Rattle.spd_cons_core.specs.Views.{Seat, Machine}
-use Rattle.spd_cons_core.specs.Seats.{spent, seat_at, with_seat, bucket, bucket_count, Names, entry_words, is_known}
-use Rattle.spd_cons_core.specs.Invariants.{IsSized, IsClaimed, IsKnown, IsSpare, IsSearch, IsSeat, IsSound, Stays, Keeps, total, times_listed, shares, stands_at_end, filled}
+use Rattle.spd_cons_core.specs.Seats.{spent, seat_at, with_seat, is_known}
+use Rattle.spd_cons_core.specs.Invariants.{IsSized, IsKnown, IsSearch, IsSeat, IsSound, Stays, Keeps, total, times_listed, shares, stands_at_end, filled}
 use Rattle.spd_cons_core.proofs.Writes.{set_cases, live_within, total_same}
-use Rattle.spd_cons_core.proofs.Growth.{Grows, LeavesSpare, grow_seat, grow_known, grow_search}
+use Rattle.spd_cons_core.proofs.Growth.{Grows, LeavesSpare, grow_seat}
 
 -- no event at all
 pub stays_same : (c : Machine) → Stays c c

@@ -1,21 +1,18 @@
 -- The invariant holds of a new machine, and after every list of events.
-use Rattle.std.proofs.Common.{◌≡◌, ◌≢◌, ◌⊎◌, ℕ, zero, suc, ◌+◌, ◌-◌, ◌*◌, ◌^◌, ◌<◌, ◌≤◌, Bool, true, false, cond, eqb, ltb, min, List, [], ◌∷◌, length, get_or, take, replicate, Option, Some, None, refl, sym, ap, ◌∙◌, subst, inl, inr, ⊎_elim, arith}
-use Rattle.std.specs.List.{All, AllByRecursion, Contains, count_by, sum_by, fold}
+use Rattle.std.proofs.Common.{◌≡◌, ℕ, zero, suc, ◌+◌, ◌-◌, ◌*◌, ◌<◌, ◌≤◌, true, cond, ltb, List, [], ◌∷◌, length, get_or, take, replicate, Some, refl, sym, ap, ◌∙◌, subst, ⊎_elim, arith}
+use Rattle.std.specs.List.{AllByRecursion}
 use Rattle.std.specs.Int.{IsNextPowerOfTwo}
 use Rattle.std.proofs.lemmas.Bool.{true≢false, cases_lt}
 use Rattle.std.proofs.lemmas.List.{get_or-replicate, get_or_past, length-replicate}
 use Rattle.std.proofs.lemmas.List.Elements.{All-replicate}
 use Rattle.std.proofs.lemmas.List.Sums.{fold_more}
 use Rattle.std.proofs.lemmas.List.Folds.{sum_by-replicate}
-use Rattle.spd_cons_core.specs.declared.key.Entry.{Entry}
-use Rattle.spd_cons_core.specs.declared.mind.Known.{Known}
-use Rattle.spd_cons_core.specs.declared.mind.Call.{Call}
 use Rattle.spd_cons_core.specs.declared.event.Event.{Event}
 use Rattle.spd_cons_core.specs.declared.event.Event.TheVariants.{LoadBucket, Claim, StoreContent, ExchangeBucket, LoadContent, Split, Join}
 use Rattle.spd_cons_core.specs.Views.{Seat, Machine}
-use Rattle.spd_cons_core.specs.Seats.{spent, seat_at, bucket, bucket_count, Names}
+use Rattle.spd_cons_core.specs.Seats.{spent, seat_at}
 use Rattle.spd_cons_core.specs.Events.{step, run, new_machine}
-use Rattle.spd_cons_core.specs.Invariants.{IsEvent, IsSized, IsSeat, IsSound, Stays, Keeps, total, times_listed, shares, stands_at_end, filled}
+use Rattle.spd_cons_core.specs.Invariants.{IsEvent, IsSized, IsSeat, IsSound, Stays, Keeps, filled}
 use Rattle.spd_cons_core.proofs.Quiet.{none≢some, keeps_same}
 use Rattle.spd_cons_core.proofs.LoadsBucket.{load_bucket_keeps}
 use Rattle.spd_cons_core.proofs.LoadsContent.{load_content_keeps}

@@ -1,16 +1,13 @@
 -- The law of a split.
-use Rattle.std.proofs.Common.{◌≡◌, ◌≢◌, ◌⊎◌, ℕ, ◌+◌, ◌-◌, ◌<◌, ◌≤◌, Bool, true, false, cond, not, ◌&&◌, ltb, List, [], ◌∷◌, ◌++◌, take, length, get_or, set, Option, Some, None, is_none, refl, sym, ap, ◌∙◌, subst, inl, inr, ⊎_elim, arith}
-use Rattle.std.specs.List.{Contains, sum_by}
+use Rattle.std.proofs.Common.{◌≡◌, ℕ, ◌<◌, true, List, [], ◌∷◌, ◌++◌, length, get_or, set, Some, is_none, refl, sym, ◌∙◌, subst, ⊎_elim, arith}
+use Rattle.std.specs.List.{Contains}
 use Rattle.std.proofs.lemmas.Bool.{true≢false, and_parts, cond_both, ltb-true, cases_order}
-use Rattle.std.proofs.lemmas.List.{get_or_append_left, get_or_push, get_or_past, length_push, length-set}
+use Rattle.std.proofs.lemmas.List.{get_or_append_left, get_or_push, get_or_past, length_push}
 use Rattle.std.proofs.lemmas.List.Sums.{sum_by_push}
-use Rattle.spd_cons_core.specs.declared.key.Entry.{Entry}
-use Rattle.spd_cons_core.specs.declared.mind.Known.{Known}
-use Rattle.spd_cons_core.specs.declared.mind.Call.{Call}
 use Rattle.spd_cons_core.specs.Views.{Seat, Machine}
-use Rattle.spd_cons_core.specs.Seats.{spent, seat_at, bucket, entry_words, Names}
+use Rattle.spd_cons_core.specs.Seats.{spent, seat_at}
 use Rattle.spd_cons_core.specs.Events.{can_split, after_split, split_off, split}
-use Rattle.spd_cons_core.specs.Invariants.{IsSized, IsSeat, IsSound, Keeps, total, times_listed, shares, stands_at_end}
+use Rattle.spd_cons_core.specs.Invariants.{IsSized, IsSeat, IsSound, Keeps, times_listed, shares, stands_at_end}
 use Rattle.spd_cons_core.proofs.Writes.{total_set, total_same, share_of}
 use Rattle.spd_cons_core.proofs.Growth.{Grows, LeavesSpare, known_moved, grow_claimed, search_moved}
 use Rattle.spd_cons_core.proofs.Quiet.{keeps_same, none≢some, seats_changed, spares_changed, spare_kept}

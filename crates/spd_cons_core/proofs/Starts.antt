@@ -1,9 +1,9 @@
 -- A start bucket is one of the buckets, and a search passes the buckets in order.
-use Rattle.std.proofs.Common.{◌≡◌, ◌≢◌, ◌⊎◌, ℕ, ◌+◌, ◌-◌, ◌*◌, ◌/◌, ◌%◌, ◌^◌, ◌<◌, ◌≤◌, Bool, true, false, cond, ltb, List, [], ◌∷◌, refl, sym, ap, ◌∙◌, subst, inl, inr, ⊎_elim, arith}
+use Rattle.std.proofs.Common.{◌≡◌, ◌⊎◌, ℕ, ◌+◌, ◌-◌, ◌*◌, ◌/◌, ◌^◌, ◌<◌, ◌≤◌, ltb, List, [], ◌∷◌, sym, ap, ◌∙◌, subst, inl, inr, ⊎_elim, arith}
 use Rattle.std.specs.List.{fold}
 use Rattle.std.proofs.Common.{bit_xor, lit<}
 use Rattle.std.specs.Int.{w64, rotate_left}
-use Rattle.std.proofs.lemmas.Bool.{cases_lt, cases_eq, cases_order, cond_both, ltb-true, ltb-false}
+use Rattle.std.proofs.lemmas.Bool.{cases_lt, cases_eq, cases_order, cond_both, ltb-false}
 use Rattle.std.proofs.Math.Nat.{div-lt_iff_lt-mul, mod-lt, mul_comm, mul-lt-mul_of_pos_right}
 use Rattle.std.proofs.Math.Nat.{mul-div-mul_right}
 use Rattle.std.proofs.lemmas.Nat.{pow-add, pow_pos}

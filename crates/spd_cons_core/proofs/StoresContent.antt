@@ -1,5 +1,5 @@
 -- The law of a word that is stored.
-use Rattle.std.proofs.Common.{◌≡◌, ◌≢◌, ◌⊎◌, ℕ, ◌+◌, ◌-◌, ◌<◌, ◌≤◌, Bool, true, false, cond, not, ◌&&◌, eqb, ltb, List, [], ◌∷◌, ◌++◌, take, length, get_or, set, Option, Some, None, refl, sym, ap, ◌∙◌, subst, inl, inr, ⊎_elim, arith}
+use Rattle.std.proofs.Common.{◌≡◌, ◌≢◌, ℕ, ◌+◌, ◌<◌, true, eqb, ltb, List, [], ◌∷◌, ◌++◌, take, length, get_or, set, Option, Some, None, refl, sym, ap, ◌∙◌, subst, arith}
 use Rattle.std.proofs.lemmas.Bool.{and_parts, cond_both, eqb-true, ltb-true}
 use Rattle.std.proofs.lemmas.List.{get_or-set_same, get_or-set_other, length-set, take_more, take_more_set}
 use Rattle.std.proofs.lemmas.List.Elements.{All-set}
@@ -7,9 +7,9 @@ use Rattle.spd_cons_core.specs.declared.key.Entry.{Entry}
 use Rattle.spd_cons_core.specs.declared.mind.Call.{Call}
 use Rattle.spd_cons_core.specs.Views.{Seat, Machine}
 use Rattle.spd_cons_core.specs.Spelling.{words_of, start_of}
-use Rattle.spd_cons_core.specs.Seats.{spent, seat_at, bucket, bucket_count, entry, entry_words, Names}
+use Rattle.spd_cons_core.specs.Seats.{seat_at, bucket_count, entry, entry_words}
 use Rattle.spd_cons_core.specs.Events.{can_store, store_in, store_content}
-use Rattle.spd_cons_core.specs.Invariants.{IsSized, IsSpare, IsPassed, IsSearch, IsSeat, IsSound, Keeps, times_listed, shares, stands_at_end}
+use Rattle.spd_cons_core.specs.Invariants.{IsSized, IsPassed, IsSearch, IsSeat, IsSound, Keeps, times_listed, shares, stands_at_end}
 use Rattle.spd_cons_core.proofs.Writes.{total_same}
 use Rattle.spd_cons_core.proofs.Growth.{Grows, LeavesSpare, known_moved, grow_claimed, grow_passed}
 use Rattle.spd_cons_core.proofs.Quiet.{keeps_same, none≢some, some_same, seats_changed, spares_changed, spare_kept}

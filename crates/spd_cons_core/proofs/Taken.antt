@@ -1,5 +1,5 @@
 -- What an event makes of the machine where its seat can take it.
-use Rattle.std.proofs.Common.{◌≡◌, ◌≢◌, ℕ, ◌+◌, ◌<◌, ◌≤◌, Bool, true, false, cond, not, is_none, unwrap_or, ◌&&◌, eqb, List, length, get_or, set, Option, Some, None, refl, sym, ap, ◌∙◌, subst, arith}
+use Rattle.std.proofs.Common.{◌≡◌, ℕ, ◌+◌, ◌<◌, Bool, true, false, cond, not, is_none, unwrap_or, ◌&&◌, eqb, List, length, get_or, set, Option, Some, None, refl, sym, ap, ◌∙◌}
 use Rattle.std.specs.Option.{option_map_or}
 use Rattle.std.proofs.lemmas.Bool.{true≢false, and_parts, and_from, not_from_false, ne_eqb, cond-true, eqb-true}
 use Rattle.std.proofs.lemmas.List.{set_comm, get_or-set_other}

@@ -1,20 +1,19 @@
 -- What an event may write, and that a search ends.
-use Rattle.std.proofs.Common.{◌≡◌, ◌≢◌, ◌⊎◌, ℕ, zero, suc, ◌+◌, ◌-◌, ◌*◌, ◌<◌, ◌≤◌, Bool, true, false, cond, not, ◌&&◌, eqb, ltb, List, [], ◌∷◌, length, get_or, set, take, Option, Some, None, refl, sym, ap, ◌∙◌, subst, inl, inr, ⊎_elim, arith}
+use Rattle.std.proofs.Common.{◌≡◌, ◌≢◌, ℕ, suc, ◌+◌, ◌<◌, ◌≤◌, Bool, true, false, cond, not, ◌&&◌, eqb, ltb, List, [], ◌∷◌, length, get_or, set, take, Option, Some, None, refl, sym, ap, ◌∙◌, subst, inl, inr, ⊎_elim, arith}
 use Rattle.std.specs.List.{sum_by, count_by}
-use Rattle.std.proofs.lemmas.Bool.{true≢false, and_parts, cond_both, cond-false, and_left, and_right, cases_eq, cases_lt, eqb-true, lt-ltb, ltb-true, ltb-false}
+use Rattle.std.proofs.lemmas.Bool.{and_parts, cond_both, cond-false, and_left, and_right, cases_eq, cases_lt, eqb-true, lt-ltb, ltb-false}
 use Rattle.std.proofs.lemmas.List.{get_or-set_other, get_or-set_same}
 use Rattle.std.proofs.lemmas.List.Sums.{sum_by-cons}
 use Rattle.spd_cons_core.specs.declared.key.Entry.{Entry}
 use Rattle.spd_cons_core.specs.declared.mind.Call.{Call}
 use Rattle.spd_cons_core.specs.declared.event.Event.{Event}
 use Rattle.spd_cons_core.specs.declared.event.Event.TheVariants.{LoadBucket, Claim, StoreContent, ExchangeBucket, LoadContent, Split, Join}
-use Rattle.spd_cons_core.specs.Views.{Seat, Machine}
+use Rattle.spd_cons_core.specs.Views.{Machine}
 use Rattle.spd_cons_core.specs.Spelling.{words_of, start_of}
-use Rattle.spd_cons_core.specs.Seats.{seat_at, bucket, bucket_count, Names, entry_words}
+use Rattle.spd_cons_core.specs.Seats.{seat_at, bucket, bucket_count, entry_words}
 use Rattle.spd_cons_core.specs.Events.{can_store, store_in, store_content, can_exchange, after_exchange, exchange_in, exchange_bucket, next_bucket, compare_in, step}
 use Rattle.spd_cons_core.specs.Invariants.{IsSized, IsSound, IsPassed, Publishes, seat_of, filled}
 use Rattle.spd_cons_core.proofs.Fives.{five_of_key, five_of_entry, same_of_five}
-use Rattle.spd_cons_core.proofs.Quiet.{some_same}
 
 -- only the words of the seat's own spare are written
 

@@ -1,11 +1,10 @@
 -- A list after one place of it was written, and what that does to the seats and their sums.
-use Rattle.std.proofs.Common.{◌≡◌, ◌≢◌, ◌⊎◌, ℕ, ◌+◌, ◌<◌, ◌≤◌, Bool, true, false, cond, List, [], ◌∷◌, ◌++◌, length, get_or, set, Option, Some, None, refl, sym, ap, ◌∙◌, subst, inl, inr, ⊎_elim, arith, sum_by}
-use Rattle.std.proofs.lemmas.List.{get_or-set_same, get_or-set_other, get_or_past, get_or_default}
-use Rattle.std.proofs.lemmas.List.Sums.{sum_by-set, sum_by_push}
+use Rattle.std.proofs.Common.{◌≡◌, ◌≢◌, ℕ, ◌+◌, ◌<◌, ◌≤◌, Bool, true, false, cond, List, length, get_or, set, sym, ap, ◌∙◌, subst, ⊎_elim, arith, sum_by}
+use Rattle.std.proofs.lemmas.List.{get_or-set_same, get_or-set_other, get_or_past}
+use Rattle.std.proofs.lemmas.List.Sums.{sum_by-set}
 use Rattle.std.proofs.lemmas.Bool.{true≢false, cases_lt, cases_eq}
-use Rattle.spd_cons_core.specs.Views.{Seat, Machine}
-use Rattle.spd_cons_core.specs.Seats.{spent, seat_at}
-use Rattle.spd_cons_core.specs.Invariants.{total}
+use Rattle.spd_cons_core.specs.Views.{Seat}
+use Rattle.spd_cons_core.specs.Seats.{spent}
 
 -- a list after a write, by cases on the place
 pub set_cases : {A : Type 0} (P : ℕ → A → Type 0) (l : List A) (i : ℕ) (w d : A) → i < length l → P i w → ((j : ℕ) → j ≢ i → P j (get_or l j d)) → (j : ℕ) → P j (get_or (set l i w) j d)

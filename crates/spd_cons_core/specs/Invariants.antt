@@ -1,5 +1,5 @@
 -- What holds of the machine between any two events, and what an event leaves as it was.
-use Rattle.std.specs.Prelude.{◌≡◌, ◌≢◌, ℕ, ◌+◌, ◌*◌, ◌<◌, ◌≤◌, ◌⊎◌, Bool, true, false, IsTrue, ◌==◌, nat_lt, if◌then◌else◌, cond, List, length, take, Option, Some, None, min, count_by, sum_by}
+use Rattle.std.specs.Prelude.{◌≡◌, ◌≢◌, ℕ, ◌+◌, ◌*◌, ◌<◌, ◌≤◌, ◌⊎◌, IsTrue, ◌==◌, nat_lt, if◌then◌else◌, length, take, Some, None, min, count_by, sum_by}
 use Rattle.std.specs.List.{All, Contains}
 use Rattle.std.specs.Int.{IsNextPowerOfTwo}
 use Rattle.spd_cons_core.specs.declared.key.Entry.{Entry}

@@ -1,5 +1,5 @@
 -- How a key is spelled in the table, and where its search starts.
-use Rattle.std.specs.Prelude.{◌≡◌, ℕ, ◌+◌, ◌*◌, ◌/◌, ◌%◌, ◌^◌, ◌<◌, ℤ, List, [], ◌∷◌, bit_xor, FitsSigned}
+use Rattle.std.specs.Prelude.{ℕ, ◌+◌, ◌*◌, ◌/◌, ◌%◌, ◌^◌, ◌<◌, ℤ, List, [], ◌∷◌, bit_xor, FitsSigned}
 use Rattle.std.specs.Int.{w64, w128, cast_unsigned, rotate_left}
 use Rattle.std.specs.List.{fold}
 use Rattle.spd_cons_core.specs.declared.key.Key.{Key}

@@ -1,6 +1,6 @@
-use Rattle.std.proofs.Common.{◌≡◌, ◌/◌, ◌^◌, ◌-◌, ◌<◌, sym, ap, ◌∙◌, subst, arith}
+use Rattle.std.proofs.Common.{◌/◌, ◌^◌, ◌-◌, ◌<◌, sym, ap, ◌∙◌, subst, arith}
 use Rattle.std.proofs.lemmas.Nat.{pow_pos}
-use Rattle.spd_cons_core.specs.Spelling.{words_of, hash_of, start_of}
+use Rattle.spd_cons_core.specs.Spelling.{words_of, hash_of}
 use Rattle.spd_cons_core.proofs.Starts.{start_shift, start_below}
 use Rattle.spd_cons_core.proofs.spelling.start_bucket.Goals as goal
 

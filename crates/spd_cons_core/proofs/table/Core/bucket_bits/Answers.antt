@@ -1,4 +1,4 @@
-use Rattle.std.proofs.Common.{◌≡◌, ◌^◌, sym, ap, ◌∙◌, subst, arith, length}
+use Rattle.std.proofs.Common.{◌≡◌, ap, arith, length}
 use Rattle.spd_cons_core.specs.Seats.{bucket_count}
 use Rattle.spd_cons_core.proofs.Bounds.{power_between}
 use Rattle.spd_cons_core.proofs.table.Core.bucket_bits.Goals as goal

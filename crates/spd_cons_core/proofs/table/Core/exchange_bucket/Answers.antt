@@ -1,4 +1,4 @@
-use Rattle.std.proofs.Common.{◌≡◌, ◌<◌, ◌≤◌, ℕ, length, sym, ap, ◌∙◌, arith}
+use Rattle.std.proofs.Common.{◌≡◌, length, sym, ap, ◌∙◌, arith}
 use Rattle.spd_cons_core.specs.Views.{Seat}
 use Rattle.spd_cons_core.specs.Seats.{bucket_count}
 use Rattle.spd_cons_core.proofs.Taken.{exchange_at}

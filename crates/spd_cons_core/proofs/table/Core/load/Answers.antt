@@ -1,4 +1,4 @@
-use Rattle.std.proofs.Common.{◌≡◌, ◌≤◌, ◌^◌, length, sym, ap, ◌∙◌, subst, arith, get_or}
+use Rattle.std.proofs.Common.{◌≡◌, length, ap, arith, get_or}
 use Rattle.std.proofs.lemmas.List.{get_or_read}
 use Rattle.spd_cons_core.specs.Views.{Machine}
 use Rattle.spd_cons_core.specs.Seats.{bucket, bucket_count}

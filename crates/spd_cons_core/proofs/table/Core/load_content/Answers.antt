@@ -1,6 +1,5 @@
-use Rattle.std.proofs.Common.{◌≡◌, ◌<◌, ◌≤◌, ℕ, length, sym, ap, ◌∙◌, arith}
-use Rattle.spd_cons_core.specs.Views.{Machine, Seat}
-use Rattle.spd_cons_core.specs.Seats.{bucket_count}
+use Rattle.std.proofs.Common.{sym, ap, ◌∙◌, arith}
+use Rattle.spd_cons_core.specs.Views.{Seat}
 use Rattle.spd_cons_core.proofs.Taken.{compare_entry, compare_bucket}
 use Rattle.spd_cons_core.proofs.table.Core.load_content.Goals as goal
 

@@ -1,4 +1,4 @@
-use Rattle.std.proofs.Common.{◌≡◌, sym, subst, rules}
+use Rattle.std.proofs.Common.{sym, subst, rules}
 use Rattle.spd_cons_core.specs.Invariants.{IsSound}
 use Rattle.spd_cons_core.proofs.Runs.{new_sound}
 use Rattle.spd_cons_core.proofs.table.Core.new.Goals as goal
