@@ -108,6 +108,7 @@ impl Core {
         })
     }
 
+    /// The seat's call goes on, or begins, by a look into its bucket.
     pub(crate) fn load_bucket(&mut self, seat: usize, key: Key)
         requires sized { IsSized self.old }
         requires sound { IsSound self.old }
@@ -125,6 +126,7 @@ impl Core {
         self.seats[seat].see_bucket(call, loaded);
     }
 
+    /// The seat takes what the claim number was.
     pub(crate) fn claim(&mut self, seat: usize)
         requires sized { IsSized self.old }
         requires sound { IsSound self.old }
@@ -142,6 +144,7 @@ impl Core {
         self.seats[seat].see_claim(end, old);
     }
 
+    /// The seat stores a word of its call's key in its spare.
     pub(crate) fn store_content(&mut self, seat: usize, word: u8)
         requires sized { IsSized self.old }
         requires sound { IsSound self.old }
@@ -165,6 +168,7 @@ impl Core {
         });
     }
 
+    /// The seat puts its spare into the bucket of its call, if that is empty.
     #[tactic(auto, using(crate::proofs::Taken::exchange_taken))]
     pub(crate) fn exchange_bucket(&mut self, seat: usize) -> Result<(), Memory>
         requires sized { IsSized self.old }
@@ -186,6 +190,7 @@ impl Core {
         Ok(())
     }
 
+    /// The seat compares a word of the entry that its call has found.
     #[tactic(auto, using(crate::proofs::Taken::content_taken))]
     pub(crate) fn load_content(&mut self, seat: usize, entry: Entry, word: u8) -> Result<(), Memory>
         requires sized { IsSized self.old }
@@ -207,6 +212,7 @@ impl Core {
         Ok(())
     }
 
+    /// A new seat is added behind the others.
     pub(crate) fn split(&mut self, alloc: Global, seat: usize) -> Result<(), Memory>
         requires sized { IsSized self.old }
         requires sound { IsSound self.old }
@@ -223,6 +229,7 @@ impl Core {
         Ok(())
     }
 
+    /// The first seat takes the other one over.
     pub(crate) fn join(&mut self, alloc: Global, seat: usize, other: usize) -> Result<(), Memory>
         requires sized { IsSized self.old }
         requires sound { IsSound self.old }
