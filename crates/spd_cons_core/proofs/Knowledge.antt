@@ -46,6 +46,12 @@ any_last p (x ∷ xs) y e = or_right (p x) (list_any p (xs ++ y ∷ [])) (any_la
 pub known_at : (xs : List Known) (e : Entry) → is_known xs e ≡ true → (k : Known) × Contains xs k × (k.entry.0 ≡ e.0)
 known_at xs e is = let r = any_at (λ k. eqb k.entry.0 e.0) xs is in (r.0, r.1, eqb-true r.0.entry.0 e.0 r.2)
 
+pub known_key : (xs : List Known) (e : Entry) → is_known xs e ≡ true → (key : Key) × Contains xs (record { entry = e; key = key })
+known_key xs e is =
+    let at = known_at xs e is in
+    let same : at.0.entry ≡ e = ap (λ (n : ℕ). let x : Entry = record { 0 = n } in x) at.2 in
+    (at.0.key, subst (λ (x : Entry). Contains xs (record { entry = x; key = at.0.key })) same at.1)
+
 pub known_from : (xs : List Known) (k : Known) → Contains xs k → is_known xs k.entry ≡ true
 known_from xs k at = any_from (λ x. eqb x.entry.0 k.entry.0) xs k at (eq-eqb k.entry.0 k.entry.0 refl)
 

@@ -1,6 +1,6 @@
 //! The laws of the machine. Each function does nothing: its contract is the law, for the proofs of
 //! the table that runs in threads, each of whose atomic steps is one event.
-ghost use Rattle.std.specs.Prelude.{◌≡◌, ◌≢◌, ℕ, ◌+◌, ◌*◌, ◌<◌, ◌≤◌, ◌↔◌, ℤ, List, IsTrue, IsFalse, Some, length};
+ghost use Rattle.std.specs.Prelude.{◌≡◌, ◌≢◌, ℕ, ◌+◌, ◌*◌, ◌<◌, ◌≤◌, ◌↔◌, ◌⊎◌, ℤ, List, IsTrue, IsFalse, Some, length};
 ghost use Rattle.std.specs.List.{AllByRecursion, Contains};
 ghost use Rattle.std.specs.Int.{IsNextPowerOfTwo};
 ghost use Rattle.spd_cons_core.specs.declared.key.Entry.{Entry};
@@ -8,10 +8,10 @@ ghost use Rattle.spd_cons_core.specs.declared.key.Key.{Key};
 ghost use Rattle.spd_cons_core.specs.declared.mind.Known.{Known};
 ghost use Rattle.spd_cons_core.specs.declared.mind.Call.{Call};
 ghost use Rattle.spd_cons_core.specs.declared.event.Event.{Event};
-ghost use Rattle.spd_cons_core.specs.Views.{Machine};
+ghost use Rattle.spd_cons_core.specs.Views.{Machine, Seat};
 ghost use Rattle.spd_cons_core.specs.Spelling.{words_of, start_of, IsKey};
-ghost use Rattle.spd_cons_core.specs.Seats.{seat_at, bucket, bucket_count, Names, entry_words, same_key};
-ghost use Rattle.spd_cons_core.specs.Events.{load_bucket, claim, store_content, exchange_bucket, load_content, split, join, next_bucket, step, run, new_machine};
+ghost use Rattle.spd_cons_core.specs.Seats.{seat_at, bucket, bucket_count, Names, entry_words, is_known, same_key};
+ghost use Rattle.spd_cons_core.specs.Events.{load_bucket, claim, store_content, exchange_bucket, load_content, split, after_join, join, next_bucket, step, run, new_machine};
 ghost use Rattle.spd_cons_core.specs.Invariants.{IsSized, IsSound, IsEvent, Keeps, Publishes, seat_of, total, filled, shares};
 
 // What each kind of event keeps ------------------------------------------------------------------
@@ -103,6 +103,19 @@ pub fn filled_buckets_differ()
 pub fn seats_agree()
     ensures keys { (c : Machine) (i j : ℕ) (k other : Known) → IsSound c → IsTrue (seat_at c i).live → IsTrue (seat_at c j).live → Contains (seat_at c i).knows k → Contains (seat_at c j).knows other → k.entry ≡ other.entry → k.key ≡ other.key }
     ensures entries { (c : Machine) (i j : ℕ) (k other : Known) → IsSound c → IsTrue (seat_at c i).live → IsTrue (seat_at c j).live → Contains (seat_at c i).knows k → Contains (seat_at c j).knows other → k.key ≡ other.key → k.entry ≡ other.entry }
+{}
+
+/// A joined seat knows what both knew, and nothing else.
+pub fn joined_seats_know_both()
+    ensures nothing_else { (seat other : Seat) (k : Known) → Contains (after_join seat other).knows k → Contains seat.knows k ⊎ Contains other.knows k }
+    ensures first { (seat other : Seat) (e : Entry) → IsTrue (is_known seat.knows e) → IsTrue (is_known (after_join seat other).knows e) }
+    ensures second { (seat other : Seat) (e : Entry) → IsTrue (is_known other.knows e) → IsTrue (is_known (after_join seat other).knows e) }
+{}
+
+/// An entry is known exactly where some key is known for it.
+pub fn known_entries_have_keys()
+    ensures known { (knows : List Known) (e : Entry) → IsTrue (is_known knows e) → (key : Key) × Contains knows (record { entry = e; key = key }) }
+    ensures back { (knows : List Known) (k : Known) → Contains knows k → IsTrue (is_known knows k.entry) }
 {}
 
 /// A seat that has met the end of the claims and stands, with its splits left, for all seats has
