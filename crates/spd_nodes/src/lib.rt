@@ -1,0 +1,15 @@
+//! Reduced test trees over the variables' present and next values, and the stores that hold each of them once.
+#![tactic(auto)]
+
+pub mod alone;
+pub mod forest;
+mod keys;
+pub mod layout;
+pub mod leaf;
+pub mod steps;
+
+pub use alone::Alone;
+pub use forest::{Forest, Ref, StoreFault, View};
+pub use layout::{Layout, Level};
+pub use leaf::Leaf;
+pub use steps::Steps;
