@@ -1,4 +1,7 @@
 pub mod KeyLaws
+pub mod LayoutLaws
+pub mod RankLaws
+pub mod RefLaws
 pub mod ShownLaws
 pub mod StateLaws
 pub mod StoreLaws

@@ -1,12 +1,13 @@
 -- Calls one after the other: what they show, make and lack together.
-use Rattle.std.proofs.Common.{◌≡◌, inl, inr, List, [], ◌∷◌, ◌++◌, refl, sym, ◌∙◌, subst, true}
+use Rattle.std.proofs.Common.{◌≡◌, ℕ, ap, inl, inr, List, [], ◌∷◌, ◌++◌, refl, sym, ◌∙◌, subst, true, Bool, IsTrue, ◌==◌}
+use Rattle.std.proofs.lemmas.Bool.Decides.{Decides-eqb}
 use Rattle.spd_cons_core.specs.declared.key.Entry.{Entry}
 use Rattle.spd_nodes.specs.declared.forest.StoreFault.{StoreFault}
 use Rattle.spd_nodes.specs.declared.forest.StoreFault.TheVariants as F
-use Rattle.spd_nodes.specs.Trees.{Tree, IsNode, IsNodeOf}
-use Rattle.spd_nodes.specs.States.{Function, Agree}
+use Rattle.spd_nodes.specs.Trees.{Tree, IsNode, IsNodeOf, IsAt}
+use Rattle.spd_nodes.specs.States.{Function, test_tree, Agree, AgreePast}
 use Rattle.spd_nodes.specs.Shown.{Shown, IsSound, Grows, MakesOnly, LacksOne, Faults, IsWhole, meaning, StandsFor}
-use Rattle.spd_nodes.proofs.StateLaws.{positive-slots, test_tree-value}
+use Rattle.spd_nodes.proofs.StateLaws.{positive-slots, test_tree-value, test_tree-function_of, tree-unique, part-unique}
 
 -- all nodes of some trees are nodes of others
 pub record Within (ts us : List Tree) : Type 0 where
@@ -87,3 +88,24 @@ stands-grows {s = s} {t = t} {r = r} {f = f} g h =
       value = rw (g.sizes, e) h.value;
       tree = rw (g.sizes) (e ∙ h.tree);
     }
+
+-- the tree of a whole entry is the test tree of its function
+pub tree-meaning : (s : Shown) → IsSound s → (r : Entry) → s.knows r ≡ true → IsWhole s r → s.tree r ≡ test_tree s.sizes (meaning s r)
+tree-meaning s o r k w = sym (test_tree-function_of s.sizes (positive-slots s.sizes o.layout.values) (s.tree r) (o.reduced r k) w)
+
+-- whole entries of one function are equal
+pub same-function : (s : Shown) → IsSound s → (f g : Entry) → s.knows f ≡ true → s.knows g ≡ true → IsWhole s f → IsWhole s g → Agree s.sizes (meaning s f) (meaning s g) → f ≡ g
+same-function s o f g k m w v h =
+    o.once f g k m (tree-unique s.sizes (positive-slots s.sizes o.layout.values) (s.tree f) (s.tree g) (o.reduced f k) w (o.reduced g m) v h)
+
+-- so are entries of one root level and one function from its value on
+pub same-rest : (s : Shown) → IsSound s → (l : ℕ) (f g : Entry) → s.knows f ≡ true → s.knows g ≡ true → IsAt l (s.tree f) → IsAt l (s.tree g) → AgreePast s.sizes l (meaning s f) (meaning s g) → f ≡ g
+same-rest s o l f g k m w v h =
+    o.once f g k m (part-unique s.sizes (positive-slots s.sizes o.layout.values) l (s.tree f) (s.tree g) (o.reduced f k) (o.reduced g m) w v h)
+
+-- what a comparison of entries says of what they stand for
+pub when-same : (f g : Entry) (b : Bool) (P : Entry → Type 0) → (b ≡ (f.0 == g.0)) → P f → (P g → f ≡ g) → (IsTrue b → P g) × (P g → IsTrue b)
+when-same f g b P e p back = (
+  λ h. subst P (let q : f.0 ≡ g.0 = (Decides-eqb f.0 g.0).0 (sym e ∙ h) in λ i. record { 0 = q i }) p,
+  λ h. e ∙ (Decides-eqb f.0 g.0).1 (ap (λ (r : Entry). r.0) (back h)),
+)

@@ -2,7 +2,7 @@
 --
 -- A slot is a variable that takes one of d values, 0 to d - 1. It has d - 1 tests, "is it value j?", for j from 0 to d - 2.
 -- Levels number the tests from 0, slot after slot and value after value. A point gives each slot a value.
-use Rattle.std.specs.Prelude.{ℕ, ◌+◌, ◌-◌, ◌*◌, ◌<◌, ◌≤◌, ◌==◌, Bool, true, false, cond, nat_lt, List, [], ◌∷◌, take}
+use Rattle.std.specs.Prelude.{ℕ, ◌+◌, ◌-◌, ◌*◌, ◌<◌, ◌≤◌, ◌==◌, Bool, true, false, cond, nat_lt, List, [], ◌∷◌, take, length, slice_index, ◌≡◌}
 
 -- the number of levels of some slots
 abbrev pub levels_of : List ℕ → ℕ
@@ -55,3 +55,9 @@ slot_of var primed = 2 * var + cond primed 0 1
 -- the level of the test of a variable's value, after all levels of the slots before
 abbrev pub level_at : List ℕ → ℕ → Bool → ℕ → ℕ
 level_at sizes var primed value = levels_of (take (slot_of var primed) (slots sizes)) + value
+
+-- a level asks for a value of a variable, primed or plain, that isn't the variable's last one
+pub record IsTestOf (sizes : List ℕ) (level var : ℕ) (primed : Bool) (value : ℕ) : Type 0 where
+  pub var_in : var < length sizes
+  pub value_in : value + 1 < slice_index sizes var
+  pub level_is : level_at sizes var primed value ≡ level

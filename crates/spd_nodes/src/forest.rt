@@ -1,7 +1,8 @@
 ghost use Rattle.std.specs.Prelude.{◌≡◌, ℕ, ◌+◌, ◌<◌, [], ◌∷◌, IfOk, IfErr, true};
 ghost use Rattle.spd_nodes.specs.Levels.{levels_of, slots};
 ghost use Rattle.spd_nodes.specs.Trees.{Ends, join, CanTest};
-ghost use Rattle.spd_nodes.specs.Shown.{Shown, IsSound, Grows, MakesOnly, KnowsAs, IsViewOf, Faults, test_steps};
+ghost use Rattle.spd_nodes.specs.Shown.{Shown, IsSound, Grows, MakesOnly, KnowsAs, IsViewOf, IsWhole, Faults, meaning, test_steps};
+ghost use Rattle.spd_nodes.specs.States.{test_tree};
 
 use crate::layout::{Layout, Level};
 use crate::leaf::Leaf;
@@ -83,5 +84,7 @@ pub trait Forest {
         ensures sound { IsSound (shows self.new) }
         ensures same { shows self.new ≡ shows self.old }
         ensures keeps { kept self.new ≡ kept self.old }
-        ensures view { IsViewOf (shows self.old) r result };
+        ensures view { IsViewOf (shows self.old) r result }
+        // The tree whose root this is is the test tree of the Ref's function.
+        ensures tree { IsWhole (shows self.old) r → (shows self.old).tree r ≡ test_tree (shows self.old).sizes (meaning (shows self.old) r) };
 }

@@ -1,4 +1,5 @@
-ghost use Rattle.std.specs.Prelude.{◌≡◌, ℕ, ◌+◌, ◌<◌, length, slice_index, IfOk, List};
+ghost use Rattle.std.specs.Prelude.{◌≡◌, ℕ, ◌+◌, ◌-◌, ◌*◌, ◌<◌, ◌≤◌, length, slice_index, take, IfOk, List};
+ghost use Rattle.spd_nodes.specs.Levels.{levels_of, slots, level_at, IsTestOf};
 ghost use Rattle.spd_nodes.specs.Limits.{IsLayout};
 
 use std::alloc::{AllocError, Global};
@@ -45,4 +46,71 @@ impl Layout {
     {
         self.sizes.as_slice()
     }
+
+    /// The level of the test of a variable's value, which isn't its last one.
+    pub fn level(&self, var: u32, primed: bool, value: u8) -> Level
+        requires var { var < length self.now }
+        requires value { value + 1 < slice_index self.now var }
+        ensures level { result.0 ≡ level_at self.now var primed value }
+        ensures within { result.0 < levels_of (slots self.now) }
+    {
+        Level(level_in(self.sizes(), var as usize, primed, value))
+    }
+
+    /// Which variable a level tests, whether it is the variable's next value (primed), and which value it asks for.
+    pub fn what(&self, level: Level) -> (u32, bool, u8)
+        requires { level.0 < levels_of (slots self.now) }
+        ensures { IsTestOf self.now level.0 result.0 result.1 result.2 }
+    {
+        test_at(self.sizes(), level.0)
+    }
+}
+
+/// The number of levels of the variables before one.
+fn levels_before(sizes: &[u8], var: usize) -> u16
+    requires layout { IsLayout sizes.now }
+    requires var { var < length sizes.now }
+    ensures before { result ≡ 2 * levels_of (take var sizes.now) }
+{
+    let mut before = 0;
+    for i in 0..var {
+        before += 2 * (sizes[i] as u16 - 1);
+    }
+    before
+}
+
+/// The number of the test of a variable's value.
+fn level_in(sizes: &[u8], var: usize, primed: bool, value: u8) -> u16
+    requires layout { IsLayout sizes.now }
+    requires var { var < length sizes.now }
+    requires value { value + 1 < slice_index sizes.now var }
+    ensures level { result ≡ level_at sizes.now var primed value }
+    ensures within { result < levels_of (slots sizes.now) }
+{
+    let before = levels_before(sizes, var);
+    if primed {
+        before + value as u16
+    } else {
+        before + (sizes[var] as u16 - 1) + value as u16
+    }
+}
+
+/// The test of a level.
+fn test_at(sizes: &[u8], level: u16) -> (u32, bool, u8)
+    requires layout { IsLayout sizes.now }
+    requires level { level < levels_of (slots sizes.now) }
+    ensures { IsTestOf sizes.now level result.0 result.1 result.2 }
+{
+    let mut rest = level;
+    for var in 0..sizes.len() {
+        let tests = sizes[var] as u16 - 1;
+        if rest < tests {
+            return (var as u32, true, rest as u8);
+        }
+        if rest < 2 * tests {
+            return (var as u32, false, (rest - tests) as u8);
+        }
+        rest -= 2 * tests;
+    }
+    unreachable!()
 }

@@ -6,10 +6,16 @@ pub mod forest;
 mod keys;
 pub mod layout;
 pub mod leaf;
+pub mod reach;
+pub mod refs;
+pub mod same;
 pub mod steps;
 
 pub use alone::Alone;
 pub use forest::{Forest, Ref, StoreFault, View};
 pub use layout::{Layout, Level};
 pub use leaf::Leaf;
+pub use reach::{count, reached};
+pub use refs::Refs;
+pub use same::{is_same_function, is_same_rest};
 pub use steps::Steps;

@@ -19,6 +19,17 @@ impl<L: Ledger> Model for Steps<L> {
 }
 
 impl<L: Ledger> Steps<L> {
+    /// No steps. A caller that counts nothing gives `Blank::new(1)`.
+    pub fn new(blank: Blank) -> Steps<L>
+        requires name { blank.name ≡ L.name }
+        requires parts { blank.parts ≡ L.parts }
+        requires one { 0 < blank.parts }
+        ensures { result ≡ 0 }
+    {
+        let (book, share) = blank.open::<L>();
+        Steps { book, share }
+    }
+
     /// Counts one find-or-make call.
     pub fn tick(&mut self)
         ensures { self.new ≡ self.old + 1 }
