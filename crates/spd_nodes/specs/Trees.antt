@@ -89,3 +89,8 @@ IsNodeOf x (t ∷ ts) = IsNode x t ⊎ IsNodeOf x ts
 abbrev pub nodes_of : Tree → List Tree
 nodes_of (Ends a) = Ends a ∷ []
 nodes_of (Tests l y n) = Tests l y n ∷ (nodes_of y ++ nodes_of n)
+
+-- how many levels a tree has at most, from its root's level on
+abbrev pub tree_rank : List ℕ → Tree → ℕ
+tree_rank ds (Ends a) = 0
+tree_rank ds (Tests l y n) = levels_of ds - l

@@ -2,7 +2,8 @@ use Rattle.std.proofs.Common.{rules, ◌≡◌, ◌<◌, true, Result, Ok, Err, 
 use Rattle.spd_nodes.specs.Levels.{slots}
 use Rattle.spd_nodes.specs.Shown.{IsSound}
 use Rattle.spd_nodes.specs.Refs.{IsClosed}
-use Rattle.spd_nodes.proofs.RankLaws.{rank, rank-view}
+use Rattle.spd_nodes.proofs.RankLaws.{rank-view}
+use Rattle.spd_nodes.specs.Trees.{tree_rank}
 use Rattle.spd_nodes.proofs.RefLaws.{visits-leaf, visits-test}
 use Rattle.spd_nodes.proofs.reach.+visit.Goals as goal
 
@@ -11,7 +12,7 @@ visit-requires g t c κs within =
     let s = g.F.Forest.shows c.args.forest.now in
     let v = c.in-Test.ensures.view in
     let w = rank-view s c.requires.sound c.args.r c.in-Test.yes c.in-Test.no c.in-Test.level.0 c.requires.known v.0 in
-    let smaller : rank (slots (g.F.Forest.shows c.view.new.self).sizes) ((g.F.Forest.shows c.view.new.self).tree c.in-Test.yes) < rank (slots s.sizes) (s.tree c.args.r) = rw c.view.ensures.same w.0 in
+    let smaller : tree_rank (slots (g.F.Forest.shows c.view.new.self).sizes) ((g.F.Forest.shows c.view.new.self).tree c.in-Test.yes) < tree_rank (slots s.sizes) (s.tree c.args.r) = rw c.view.ensures.same w.0 in
     let known : (g.F.Forest.shows c.view.new.self).knows c.in-Test.yes ≡ true = rw c.view.ensures.same v.1 in
     let closed : IsClosed (g.F.Forest.shows c.view.new.self) c.args.seen.now = rw c.view.ensures.same c.requires.closed in
     search rules
@@ -21,7 +22,7 @@ visit-requires-in-Test g t c κs within =
     let s = g.F.Forest.shows c.args.forest.now in
     let v = c.in-Test.ensures.view in
     let w = rank-view s c.requires.sound c.args.r c.in-Test.yes c.in-Test.no c.in-Test.level.0 c.requires.known v.0 in
-    let smaller : rank (slots (g.F.Forest.shows c.visit.new.forest).sizes) ((g.F.Forest.shows c.visit.new.forest).tree c.in-Test.no) < rank (slots s.sizes) (s.tree c.args.r) = rw (c.visit.ensures.same, c.view.ensures.same) w.1 in
+    let smaller : tree_rank (slots (g.F.Forest.shows c.visit.new.forest).sizes) ((g.F.Forest.shows c.visit.new.forest).tree c.in-Test.no) < tree_rank (slots s.sizes) (s.tree c.args.r) = rw (c.visit.ensures.same, c.view.ensures.same) w.1 in
     let known : (g.F.Forest.shows c.visit.new.forest).knows c.in-Test.no ≡ true = rw (c.visit.ensures.same, c.view.ensures.same) v.2 in
     let sound : IsSound (g.F.Forest.shows c.visit.new.forest) = rw (c.visit.ensures.same, c.view.ensures.same) c.requires.sound in
     let closed : IsClosed (g.F.Forest.shows c.visit.new.forest) c.visit.new.seen = rw c.visit.ensures.same c.in_ok-visit-in-Test.ensures.ok.closed in

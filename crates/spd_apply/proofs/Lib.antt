@@ -1,0 +1,4 @@
+pub mod AppliedLaws
+pub mod HalfLaws
+pub mod MemoLaws
+pub mod Steps
