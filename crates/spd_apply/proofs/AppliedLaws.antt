@@ -266,3 +266,26 @@ module _ (ds : List ℕ) (op : Leaf → Leaf → Leaf) where
       let w : IsReduced ds 0 (applied op t u) × IsFrom ds 0 0 (applied op t u) = applied-whole t u r s 0 f g in
       sym (tree_of-value_at ds 0 (applied op t u) w.0 w.1) ∙ ap (tree_of ds 0) (λ i p. value_at-applied ds 0 op t u p i)
 
+-- the halves of two trees that an operation may meet are such trees, and what it makes of them may be a test's children
+pub record Descends (ds : List ℕ) (l : ℕ) (ty tn uy un : Tree) : Type 0 where
+  pub aligned_yes : IsAligned ds ty uy
+  pub aligned_no : IsAligned ds tn un
+  pub can_test : (op : Leaf → Leaf → Leaf) → CanTest ds l (applied op ty uy) (applied op tn un)
+
+-- what an operation goes on to from two trees that it may meet
+pub descends : (ds : List ℕ) (l : ℕ) (t u : Tree) → IsReduced ds 0 t → IsReduced ds 0 u → Meets ds l t u → Descends ds l (yes_at l t) (no_at l t) (yes_at l u) (no_at l u)
+descends ds l t u r s m = record {
+  aligned_yes = aligned-from ds (after ds l) (yes_at l t) (yes_at l u) m.left.yes_reduced m.right.yes_reduced m.left.yes_from m.right.yes_from;
+  aligned_no = aligned_next m.left.no_fits m.right.no_fits;
+  can_test = λ op. (children ds op (tree_size t + tree_size u) (good-all ds op (tree_size t + tree_size u)) l t u (omega arith) m).can_test;
+}
+  where
+    next : l + 1 < after ds l → Fits ds (l + 1) (no_at l t) → Fits ds (l + 1) (no_at l u) → IsAligned ds (no_at l t) (no_at l u)
+    next b f g = aligned-fits ds (l + 1) (no_at l t) (no_at l u) (after_above ds (l + 1) (omega (arith, after_le ds l))) m.left.no_reduced m.right.no_reduced f g
+
+    aligned_next : (IsFrom ds 0 (after ds l) (no_at l t) ⊎ (IsAt (l + 1) (no_at l t) × (l + 1 < after ds l))) → (IsFrom ds 0 (after ds l) (no_at l u) ⊎ (IsAt (l + 1) (no_at l u) × (l + 1 < after ds l)))
+        → IsAligned ds (no_at l t) (no_at l u)
+    aligned_next (inl f) (inl g) = aligned-from ds (after ds l) (no_at l t) (no_at l u) m.left.no_reduced m.right.no_reduced f g
+    aligned_next (inr f) (inr g) = next f.1 (inr f.0) (inr g.0)
+    aligned_next (inr f) (inl g) = next f.1 (inr f.0) (inl (rw (after-next ds l f.1) g))
+    aligned_next (inl f) (inr g) = next g.1 (inl (rw (after-next ds l g.1) f)) (inr g.0)

@@ -1,4 +1,6 @@
 pub mod AppliedLaws
 pub mod HalfLaws
 pub mod MemoLaws
+pub mod PlanLaws
 pub mod Steps
+pub mod WholeLaws

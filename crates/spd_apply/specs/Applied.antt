@@ -1,5 +1,7 @@
 -- An operation on leaves, carried to trees.
-use Rattle.std.specs.Prelude.{◌≡◌, ℕ, ◌<◌, ◌==◌, Bool, true, cond, nat_lt}
+use Rattle.std.specs.Prelude.{◌≡◌, ℕ, ◌<◌, ◌==◌, Bool, true, cond, nat_lt, List}
+use Rattle.spd_nodes.specs.Levels.{slots}
+use Rattle.spd_apply.specs.Halves.{IsAligned}
 use Rattle.spd_nodes.specs.declared.leaf.Leaf.{Leaf}
 use Rattle.spd_nodes.specs.declared.leaf.Leaf.TheVariants.{Act}
 use Rattle.spd_nodes.specs.Trees.{Tree, Ends, Tests, join}
@@ -28,3 +30,8 @@ fit_mark fits a b = cond (fits a b) (Act 1) (Act 0)
 -- each two leaves that meet fit
 abbrev pub AllFit : (Leaf → Leaf → Bool) → Tree → Tree → Type 0
 AllFit fits t u = applied (fit_mark fits) t u ≡ Ends (Act 1)
+
+-- two trees on which an operation may be carried out: they are aligned, and the leaves that meet fit
+pub record MayApply (fits : Leaf → Leaf → Bool) (sizes : List ℕ) (t u : Tree) : Type 0 where
+  pub aligned : IsAligned (slots sizes) t u
+  pub fit : AllFit fits t u

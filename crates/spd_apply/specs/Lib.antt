@@ -1,3 +1,5 @@
 pub mod Applied
 pub mod Halves
+pub mod Outcome
 pub mod Rules
+pub mod Views
