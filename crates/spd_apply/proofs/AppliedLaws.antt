@@ -12,7 +12,7 @@ use Rattle.spd_apply.specs.Halves.{yes_at, no_at, IsAligned, pair_rank}
 use Rattle.spd_apply.specs.Applied.{mapped, against, applied}
 use Rattle.spd_apply.proofs.HalfLaws.{same_level, Fits, Splits, splits-at, splits-past, after-next, first-past, first0, level_of-reduced, aligned-from, aligned-fits, Joins, joins, IsFrom-at, IsFrom-lower, at-from, after_le, in-yes, in-no, eq-refl, ne-false, after0}
 
-value_at-mapped : (ds : List ℕ) (b : ℕ) (f : Leaf → Leaf) (t : Tree) (p : List ℕ) → value_at ds b (mapped f t) p ≡ f (value_at ds b t p)
+pub value_at-mapped : (ds : List ℕ) (b : ℕ) (f : Leaf → Leaf) (t : Tree) (p : List ℕ) → value_at ds b (mapped f t) p ≡ f (value_at ds b t p)
 value_at-mapped ds b f (Ends a) p = refl
 value_at-mapped ds b f (Tests l y n) p =
     value_at-join ds b l (mapped f y) (mapped f n) p ∙ rw (value_at-mapped ds b f y p, value_at-mapped ds b f n p) (go (passes ds (l - b) p) (value_at ds b y p) (value_at ds b n p))
@@ -120,7 +120,7 @@ meets-left ds k y n (Tests l v m) r s f =
       is_join = λ op. rw (a, eq-refl k, b) refl;
     }
 
-meets-right : (ds : List ℕ) (l : ℕ) (t v m : Tree) → IsReduced ds 0 t → IsReduced ds 0 (Tests l v m) → IsFrom ds 0 (after ds l) t → Meets ds l t (Tests l v m)
+pub meets-right : (ds : List ℕ) (l : ℕ) (t v m : Tree) → IsReduced ds 0 t → IsReduced ds 0 (Tests l v m) → IsFrom ds 0 (after ds l) t → Meets ds l t (Tests l v m)
 meets-right ds l (Ends a) v m r s f = record {
   level = level_of-reduced ds l v m s;
   left = splits-past ds l (Ends a) (after_above ds l (level_of-reduced ds l v m s)) r f;

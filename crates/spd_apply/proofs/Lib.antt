@@ -1,5 +1,6 @@
 pub mod AppliedLaws
 pub mod HalfLaws
+pub mod MapLaws
 pub mod MemoLaws
 pub mod PlanLaws
 pub mod Steps

@@ -87,7 +87,7 @@ pub one-rank : (ds : List ℕ) (l : ℕ) (t u : Tree) → IsAt l t ⊎ IsAt l u 
 one-rank ds l t u (inl h) = let e : tree_rank ds t ≡ levels_of ds - l = at-rank ds l t h in omega arith
 one-rank ds l t u (inr h) = let e : tree_rank ds u ≡ levels_of ds - l = at-rank ds l u h in omega arith
 
-join-ends : (l : ℕ) (y n : Tree) (a : Leaf) → join l y n ≡ Ends a → (y ≡ Ends a) × (n ≡ Ends a)
+pub join-ends : (l : ℕ) (y n : Tree) (a : Leaf) → join l y n ≡ Ends a → (y ≡ Ends a) × (n ≡ Ends a)
 join-ends l y n a = go (tree_eq y n) refl
   where
     go : (t : Bool) → tree_eq y n ≡ t → cond t n (Tests l y n) ≡ Ends a → (y ≡ Ends a) × (n ≡ Ends a)

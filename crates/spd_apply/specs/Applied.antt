@@ -35,3 +35,11 @@ AllFit fits t u = applied (fit_mark fits) t u ≡ Ends (Act 1)
 pub record MayApply (fits : Leaf → Leaf → Bool) (sizes : List ℕ) (t u : Tree) : Type 0 where
   pub aligned : IsAligned (slots sizes) t u
   pub fit : AllFit fits t u
+
+-- 1 where a leaf fits a map, else 0
+abbrev pub map_mark : (Leaf → Bool) → Leaf → Leaf
+map_mark fits b = cond (fits b) (Act 1) (Act 0)
+
+-- each leaf of a tree fits
+pub record EachFits (fits : Leaf → Bool) (t : Tree) : Type 0 where
+  pub all : mapped (map_mark fits) t ≡ Ends (Act 1)

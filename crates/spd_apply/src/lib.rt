@@ -6,9 +6,11 @@ pub mod leaf_op;
 pub mod make;
 pub mod pointwise;
 pub mod rule;
+pub mod unary;
 
 pub use binary::apply;
 pub use leaf_op::{LeafMap, LeafOp};
-pub use make::make_pair;
+pub use make::{make_alone, make_pair};
 pub use pointwise::Pointwise;
 pub use rule::{Below, OpFault, Plan, Rule};
+pub use unary::{EachLeaf, map_leaves};

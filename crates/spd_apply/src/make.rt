@@ -8,6 +8,7 @@ ghost use Rattle.spd_apply.specs.Rules.{HoldsAnswers, IsAnswer, IsReady, Did, Is
 use crate::rule::{Below, OpFault, Plan, Rule};
 use spd_memo::Memo;
 use spd_nodes::{Forest, Ref, Steps};
+use std::alloc::Global;
 use std::sync::ledger::Ledger;
 
 /// The answer that a memo keeps.
@@ -118,5 +119,31 @@ fn make_below<F: Forest, R: Rule, L: Ledger>(
     match below {
         Below::Known(r) => Ok(r),
         Below::Pair(f, g) => make_pair(forest, rule, f, g, memo, steps),
+    }
+}
+
+/// The same with a memo of its own, which keeps all pairs.
+pub fn make_alone<F: Forest, R: Rule, L: Ledger>(
+    alloc: Global,
+    forest: &mut F,
+    rule: &R,
+    f: Ref,
+    g: Ref,
+    steps: &mut Steps<L>,
+) -> Result<Ref, OpFault>
+    requires left { (F.shows forest.old).knows f ≡ true }
+    requires right { (F.shows forest.old).knows g ≡ true }
+    requires may { R.may rule.now (F.shows forest.old).sizes ((F.shows forest.old).tree f) ((F.shows forest.old).tree g) }
+    ensures sound { IsSound (F.shows forest.new) }
+    ensures grows { Grows (F.shows forest.old) (F.shows forest.new) }
+    ensures keeps { F.kept forest.new ≡ F.kept forest.old }
+    ensures ok { IfOk result (λ r. KnowsAs (F.shows forest.new) r (R.making rule.now ((F.shows forest.old).tree f) ((F.shows forest.old).tree g))) }
+    ensures makes { MakesOnly (F.shows forest.old) (F.shows forest.new) (R.making rule.now ((F.shows forest.old).tree f) ((F.shows forest.old).tree g) ∷ []) }
+    ensures fault { IfErr result (λ e. Faults e (F.shows forest.new) (R.making rule.now ((F.shows forest.old).tree f) ((F.shows forest.old).tree g) ∷ [])) }
+{
+    let _ = forest.layout();
+    match Memo::new(alloc, usize::MAX) {
+        Ok(mut memo) => make_pair(forest, rule, f, g, &mut memo, steps),
+        Err(_) => Err(OpFault::Memory),
     }
 }
