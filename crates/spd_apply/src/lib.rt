@@ -4,12 +4,16 @@
 pub mod binary;
 pub mod leaf_op;
 pub mod make;
+pub mod maps;
+pub mod operations;
 pub mod pointwise;
 pub mod rule;
 pub mod unary;
 
 pub use binary::apply;
 pub use leaf_op::{LeafMap, LeafOp};
+pub use maps::{ActNum, First, Second, SecondAct};
+pub use operations::{Add, Keep, MakePair, Max, Min, Mul, PickFirst, Sub};
 pub use make::{make_alone, make_pair};
 pub use pointwise::Pointwise;
 pub use rule::{Below, OpFault, Plan, Rule};
