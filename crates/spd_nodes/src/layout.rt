@@ -57,6 +57,20 @@ impl Layout {
         Level(level_in(self.sizes(), var as usize, primed, value))
     }
 
+    /// The number of the first test of a variable's next value (primed) or present one, and the number after its last test.
+    /// They are equal for a variable with one value, which has no test.
+    pub fn tests(&self, var: u32, primed: bool) -> (u16, u16)
+        requires { var < length self.now }
+        ensures first { result.0 ≡ level_at self.now var primed 0 }
+        ensures end { result.1 ≡ result.0 + (slice_index self.now var - 1) }
+        ensures within { result.1 ≤ levels_of (slots self.now) }
+    {
+        let sizes = self.sizes();
+        let tests = sizes[var as usize] as u16 - 1;
+        let first = first_in(sizes, var as usize, primed);
+        (first, first + tests)
+    }
+
     /// Which variable a level tests, whether it is the variable's next value (primed), and which value it asks for.
     pub fn what(&self, level: Level) -> (u32, bool, u8)
         requires { level.0 < levels_of (slots self.now) }
@@ -79,6 +93,23 @@ fn levels_before(sizes: &[u8], var: usize) -> u16
     before
 }
 
+/// The number of the first test of a variable's next or present value.
+fn first_in(sizes: &[u8], var: usize, primed: bool) -> u16
+    requires layout { IsLayout sizes.now }
+    requires var { var < length sizes.now }
+    ensures first { result ≡ level_at sizes.now var primed 0 }
+    ensures room { result + (slice_index sizes.now var - 1) ≤ levels_of (slots sizes.now) }
+    ensures levels { levels_of (slots sizes.now) ≤ 512 }
+    ensures size { 0 < slice_index sizes.now var }
+{
+    let before = levels_before(sizes, var);
+    if primed {
+        before
+    } else {
+        before + (sizes[var] as u16 - 1)
+    }
+}
+
 /// The number of the test of a variable's value.
 fn level_in(sizes: &[u8], var: usize, primed: bool, value: u8) -> u16
     requires layout { IsLayout sizes.now }
@@ -87,12 +118,7 @@ fn level_in(sizes: &[u8], var: usize, primed: bool, value: u8) -> u16
     ensures level { result ≡ level_at sizes.now var primed value }
     ensures within { result < levels_of (slots sizes.now) }
 {
-    let before = levels_before(sizes, var);
-    if primed {
-        before + value as u16
-    } else {
-        before + (sizes[var] as u16 - 1) + value as u16
-    }
+    first_in(sizes, var, primed) + value as u16
 }
 
 /// The test of a level.

@@ -1,0 +1,3 @@
+pub mod CofactorLaws
+pub mod FixedLaws
+pub mod SlotLaws

@@ -1,0 +1,6 @@
+//! A diagram with a variable's value held fixed, with its plain names primed, and chosen by a variable's value.
+#![tactic(auto)]
+
+pub mod fixed;
+
+pub use fixed::cofactor;
