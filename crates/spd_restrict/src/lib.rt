@@ -2,5 +2,7 @@
 #![tactic(auto)]
 
 pub mod fixed;
+pub mod next;
 
 pub use fixed::cofactor;
+pub use next::prime;
