@@ -2,6 +2,7 @@
 #![tactic(auto)]
 
 pub mod alone;
+pub mod counting;
 pub mod forest;
 mod keys;
 pub mod layout;
@@ -12,6 +13,7 @@ pub mod same;
 pub mod steps;
 
 pub use alone::Alone;
+pub use counting::Counting;
 pub use forest::{Forest, Ref, StoreFault, View};
 pub use layout::{Layout, Level};
 pub use leaf::Leaf;
@@ -19,3 +21,6 @@ pub use reach::{count, reached};
 pub use refs::Refs;
 pub use same::{is_same_function, is_same_rest};
 pub use steps::Steps;
+
+#[cfg(test)]
+mod tests;
