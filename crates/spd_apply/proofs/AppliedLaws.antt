@@ -1,16 +1,15 @@
 -- An operation on leaves, carried to trees, is carried out at each point, and gives reduced trees.
-use Rattle.std.proofs.Common.{◌≡◌, ℕ, zero, suc, ◌+◌, ◌-◌, ◌<◌, ◌≤◌, ◌≢◌, ◌⊎◌, inl, inr, ◌==◌, ◌&&◌, Bool, true, false, cond, List, [], ◌∷◌, refl, sym, ◌∙◌, ap, subst, arith}
-use Rattle.std.specs.Prelude.{nat_lt, max}
-use Rattle.std.proofs.lemmas.Bool.Decides.{Decides-eqb, Decides-ltb, nat_tests}
+use Rattle.std.proofs.Common.{◌≡◌, ℕ, zero, suc, ◌+◌, ◌-◌, ◌<◌, ◌≤◌, ◌⊎◌, inl, inr, ◌==◌, Bool, true, false, cond, List, refl, sym, ◌∙◌, ap, subst, arith}
+use Rattle.std.specs.Prelude.{nat_lt}
+use Rattle.std.proofs.lemmas.Bool.Decides.{nat_tests}
 use Rattle.spd_nodes.specs.declared.leaf.Leaf.{Leaf}
-use Rattle.spd_nodes.specs.Levels.{levels_of, passes, after, is_first, InRange, AllPositive}
-use Rattle.spd_nodes.specs.Trees.{Tree, Ends, Tests, tree_eq, value_at, IsFrom, IsAt, IsReduced, CanTest, join, chain, tree_of, IsNode, Itself, InYes, InNo}
-use Rattle.spd_nodes.proofs.TreeLaws.{after_above, tree_eq-true, tree_eq-refl, join-same, join-differ, tree_of-value_at, tree_of-agree}
+use Rattle.spd_nodes.specs.Levels.{levels_of, passes, after, is_first}
+use Rattle.spd_nodes.specs.Trees.{Tree, Ends, Tests, value_at, IsFrom, IsAt, IsReduced, CanTest, join, tree_of}
+use Rattle.spd_nodes.proofs.TreeLaws.{after_above, tree_of-value_at}
 use Rattle.spd_nodes.proofs.ValueLaws.{value_at-join}
-use Rattle.spd_nodes.proofs.RankLaws.{rank-from, rank-at}
-use Rattle.spd_apply.specs.Halves.{yes_at, no_at, IsAligned, pair_rank}
+use Rattle.spd_apply.specs.Halves.{yes_at, no_at, IsAligned}
 use Rattle.spd_apply.specs.Applied.{mapped, against, applied}
-use Rattle.spd_apply.proofs.HalfLaws.{same_level, Fits, Splits, splits-at, splits-past, after-next, first-past, first0, level_of-reduced, aligned-from, aligned-fits, Joins, joins, IsFrom-at, IsFrom-lower, at-from, after_le, in-yes, in-no, eq-refl, ne-false, after0}
+use Rattle.spd_apply.proofs.HalfLaws.{same_level, Fits, Splits, splits-at, splits-past, after-next, level_of-reduced, aligned-from, aligned-fits, Joins, joins, IsFrom-at, IsFrom-lower, at-from, after_le, eq-refl, ne-false}
 
 pub value_at-mapped : (ds : List ℕ) (b : ℕ) (f : Leaf → Leaf) (t : Tree) (p : List ℕ) → value_at ds b (mapped f t) p ≡ f (value_at ds b t p)
 value_at-mapped ds b f (Ends a) p = refl

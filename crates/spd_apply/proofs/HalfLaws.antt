@@ -1,12 +1,10 @@
 -- The two halves of a tree at a level, and what tests can be made of halves.
-use Rattle.std.proofs.Common.{◌≡◌, ℕ, zero, suc, ◌+◌, ◌-◌, ◌<◌, ◌≤◌, ◌≢◌, ◌⊎◌, inl, inr, ◌==◌, ◌&&◌, Bool, true, false, cond, List, [], ◌∷◌, refl, sym, ◌∙◌, ap, subst, arith}
-use Rattle.std.specs.Prelude.{nat_lt, max}
-use Rattle.std.proofs.lemmas.Bool.Decides.{Decides-eqb, Decides-ltb, nat_tests}
-use Rattle.spd_nodes.specs.declared.leaf.Leaf.{Leaf}
-use Rattle.spd_nodes.specs.Levels.{levels_of, passes, after, is_first, InRange, AllPositive}
-use Rattle.spd_nodes.specs.Trees.{Tree, Ends, Tests, tree_eq, value_at, IsFrom, IsAt, IsReduced, CanTest, join, chain, tree_of, IsNode, Itself, InYes, InNo}
-use Rattle.spd_nodes.proofs.TreeLaws.{after_above, tree_eq-true, tree_eq-refl, join-same, join-differ, tree_of-value_at, tree_of-agree}
-use Rattle.spd_nodes.proofs.ValueLaws.{value_at-join}
+use Rattle.std.proofs.Common.{◌≡◌, ℕ, ◌+◌, ◌-◌, ◌<◌, ◌≤◌, ◌≢◌, ◌⊎◌, inl, inr, ◌==◌, Bool, true, false, cond, List, [], ◌∷◌, refl, sym, ◌∙◌, subst, arith}
+use Rattle.std.specs.Prelude.{nat_lt}
+use Rattle.std.proofs.lemmas.Bool.Decides.{Decides-eqb, nat_tests}
+use Rattle.spd_nodes.specs.Levels.{levels_of, after, is_first}
+use Rattle.spd_nodes.specs.Trees.{Tree, Ends, Tests, tree_eq, IsFrom, IsAt, IsReduced, CanTest, join, IsNode, InYes, InNo}
+use Rattle.spd_nodes.proofs.TreeLaws.{tree_eq-true, tree_eq-refl}
 use Rattle.spd_apply.specs.Halves.{yes_at, no_at, IsAligned}
 
 pub same_level : (k l : ℕ) → nat_lt k l ≡ false → nat_lt l k ≡ false → k ≡ l
@@ -166,4 +164,3 @@ in-no x y n l h = go (tree_eq y n)
     go : (t : Bool) → IsNode x (cond t n (Tests l y n))
     go true = h
     go false = InNo h
-

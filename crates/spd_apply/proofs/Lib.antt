@@ -1,4 +1,5 @@
 pub mod AppliedLaws
+pub mod CeilingLaws
 pub mod HalfLaws
 pub mod MapLaws
 pub mod MemoLaws

@@ -1,20 +1,19 @@
 -- How a map of leaves goes on from an entry, and what it makes of a whole one.
-use Rattle.std.proofs.Common.{◌≡◌, ℕ, ◌+◌, ◌-◌, ◌<◌, ◌≤◌, ◌⊎◌, inl, inr, Bool, true, false, cond, List, refl, sym, ◌∙◌, ap, subst, arith}
-use Rattle.std.specs.Prelude.{max}
+use Rattle.std.proofs.Common.{◌≡◌, ℕ, Bool, true, List, refl, sym, ◌∙◌, ap, subst, arith}
 use Rattle.spd_cons_core.specs.declared.key.Entry.{Entry}
 use Rattle.spd_nodes.specs.declared.leaf.Leaf.{Leaf}
 use Rattle.spd_nodes.specs.declared.leaf.Leaf.TheVariants.{Act}
-use Rattle.spd_nodes.specs.Levels.{levels_of, slots, InRange}
-use Rattle.spd_nodes.specs.Trees.{Tree, Ends, Tests, tree_rank, join, IsFrom, IsReduced, CanTest, value_at}
+use Rattle.spd_nodes.specs.Levels.{slots}
+use Rattle.spd_nodes.specs.Trees.{Ends, Tests, IsFrom, IsReduced, value_at}
 use Rattle.spd_nodes.specs.States.{point, plain_part, primed_part, function_of, Agree}
 use Rattle.spd_nodes.specs.Shown.{Shown, IsSound, IsWhole, meaning}
 use Rattle.spd_nodes.proofs.RankLaws.{rank-view}
 use Rattle.spd_nodes.proofs.TreeLaws.{tree_of-value_at, tree_of-agree}
 use Rattle.spd_nodes.proofs.StateLaws.{positive-slots, IsPointOf, point-parts}
 use Rattle.spd_apply.specs.declared.rule.Below.TheVariants as B
-use Rattle.spd_apply.specs.Applied.{mapped, applied, map_mark, EachFits}
+use Rattle.spd_apply.specs.Applied.{mapped, map_mark, EachFits}
 use Rattle.spd_apply.specs.Outcome.{map_each, FitsEverywhere}
-use Rattle.spd_apply.specs.Rules.{MayMeet, PlansTest}
+use Rattle.spd_apply.specs.Rules.{PlansTest}
 use Rattle.spd_apply.proofs.HalfLaws.{eq-refl}
 use Rattle.spd_apply.proofs.AppliedLaws.{applied-whole, applied-tree_of, value_at-mapped, Meets, meets-right, descends}
 use Rattle.spd_apply.proofs.PlanLaws.{join-ends, fit-leaves}

@@ -1,8 +1,7 @@
 -- A memo that holds only answers goes on to hold only answers.
-use Rattle.std.proofs.Common.{◌≡◌, ℕ, ◌⊎◌, inl, inr, List, Option, Some, None, refl, sym, ◌∙◌, ap, subst}
+use Rattle.std.proofs.Common.{◌≡◌, inl, inr, Some, sym, subst}
 use Rattle.std.specs.Prelude.{Contains}
 use Rattle.spd_cons_core.specs.declared.key.Entry.{Entry}
-use Rattle.spd_nodes.specs.Trees.{Tree}
 use Rattle.spd_nodes.specs.Shown.{Shown, Grows}
 use Rattle.spd_memo.specs.Kept.{Kept, answer_in, promoted_in, put_in}
 use Rattle.spd_memo.proofs.KeptLaws.{Contains-answer, Contains-promoted_in, Contains-put}

@@ -1,6 +1,6 @@
 -- How an operation on leaves goes on from two entries.
-use Rattle.std.proofs.Common.{◌≡◌, ℕ, ◌+◌, ◌-◌, ◌<◌, ◌≤◌, ◌⊎◌, inl, inr, ◌==◌, Bool, true, false, cond, List, refl, sym, ◌∙◌, ap, subst, arith}
-use Rattle.std.specs.Prelude.{nat_lt, max}
+use Rattle.std.proofs.Common.{◌≡◌, ℕ, ◌-◌, ◌<◌, ◌≤◌, ◌⊎◌, inl, inr, ◌==◌, Bool, true, false, cond, List, refl, sym, ◌∙◌, ap, arith}
+use Rattle.std.specs.Prelude.{nat_lt}
 use Rattle.spd_cons_core.specs.declared.key.Entry.{Entry}
 use Rattle.spd_nodes.specs.declared.leaf.Leaf.{Leaf}
 use Rattle.spd_nodes.specs.declared.leaf.Leaf.TheVariants.{Act}
@@ -8,16 +8,15 @@ use Rattle.spd_nodes.specs.declared.layout.Level.{Level}
 use Rattle.spd_nodes.specs.declared.forest.View.{View}
 use Rattle.spd_nodes.specs.declared.forest.View.TheVariants as V
 use Rattle.spd_nodes.specs.Levels.{levels_of, slots, after}
-use Rattle.spd_nodes.specs.Trees.{Tree, Ends, Tests, tree_eq, tree_rank, join, IsFrom, IsAt}
+use Rattle.spd_nodes.specs.Trees.{Tree, Ends, Tests, tree_eq, tree_rank, join, IsAt}
 use Rattle.spd_nodes.specs.Shown.{Shown, IsSound, IsViewOf}
 use Rattle.spd_nodes.proofs.RankLaws.{rank-from, rank-at}
 use Rattle.spd_nodes.proofs.TreeLaws.{tree_eq-true, after_above}
-use Rattle.spd_apply.specs.declared.pointwise.Top.{Top}
 use Rattle.spd_apply.specs.declared.pointwise.Top.TheVariants as T
 use Rattle.spd_apply.specs.declared.rule.Below.TheVariants as B
-use Rattle.spd_apply.specs.Halves.{yes_at, no_at, IsAligned, pair_rank}
+use Rattle.spd_apply.specs.Halves.{yes_at, no_at, pair_rank}
 use Rattle.spd_apply.specs.Applied.{applied, fit_mark, AllFit, MayApply}
-use Rattle.spd_apply.specs.Rules.{MayMeet, IsBelow, PlansTest}
+use Rattle.spd_apply.specs.Rules.{PlansTest}
 use Rattle.spd_apply.specs.Views.{top_of_views, next_yes, next_no}
 use Rattle.spd_apply.proofs.HalfLaws.{Splits}
 use Rattle.spd_apply.proofs.AppliedLaws.{top_of, BothEnd, Meets, meets-cases, Descends, descends}

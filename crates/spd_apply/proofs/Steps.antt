@@ -1,15 +1,14 @@
 -- What the calls of a making show, one after the other.
-use Rattle.std.proofs.Common.{◌≡◌, ℕ, List, [], ◌∷◌, ◌<◌, ◌≤◌, ◌+◌, ◌*◌, Bool, true, false, cond, refl, sym, ◌∙◌, ap, subst, arith, inl, inr}
+use Rattle.std.proofs.Common.{◌≡◌, ℕ, [], ◌∷◌, ◌<◌, ◌+◌, ◌*◌, true, refl, sym, ◌∙◌, subst, arith, inl}
 use Rattle.spd_cons_core.specs.declared.key.Entry.{Entry}
-use Rattle.spd_nodes.specs.declared.leaf.Leaf.{Leaf}
 use Rattle.spd_nodes.specs.declared.forest.StoreFault.{StoreFault}
 use Rattle.spd_nodes.specs.Levels.{slots, levels_of}
-use Rattle.spd_nodes.specs.Trees.{Tree, Ends, join, CanTest, IsNode, IsNodeOf}
+use Rattle.spd_nodes.specs.Trees.{Tree, join, CanTest}
 use Rattle.spd_nodes.specs.Shown.{Shown, IsSound, Grows, MakesOnly, KnowsAs, Faults}
 use Rattle.spd_nodes.proofs.ShownLaws.{Within, within-one, grows-none, grows-then, makes-none, makes-within, makes-then, faults-within}
 use Rattle.spd_memo.specs.Kept.{Kept}
 use Rattle.spd_apply.specs.Halves.{pair_rank}
-use Rattle.spd_apply.specs.Rules.{Making, below_tree, below_rank, MayMeet, IsBelow, PlansBelow, PlansTest, IsAnswer, HoldsAnswers, IsReady, Did}
+use Rattle.spd_apply.specs.Rules.{Making, below_tree, below_rank, IsBelow, PlansTest, HoldsAnswers, Did}
 use Rattle.spd_apply.specs.declared.rule.Below.{Below}
 use Rattle.spd_apply.specs.declared.rule.Below.TheVariants as B
 use Rattle.spd_apply.proofs.HalfLaws.{in-yes, in-no}

@@ -1,20 +1,19 @@
 -- What an operation makes of whole entries.
-use Rattle.std.proofs.Common.{◌≡◌, ℕ, List, [], ◌∷◌, Bool, true, false, cond, refl, sym, ◌∙◌, ap, subst, Result, Ok, Err, IfOk, IfErr}
+use Rattle.std.proofs.Common.{◌≡◌, ℕ, List, [], ◌∷◌, Bool, true, refl, sym, ◌∙◌, ap, subst, Result, Ok, Err, IfOk, IfErr}
 use Rattle.spd_cons_core.specs.declared.key.Entry.{Entry}
 use Rattle.spd_nodes.specs.declared.leaf.Leaf.{Leaf}
 use Rattle.spd_nodes.specs.declared.leaf.Leaf.TheVariants.{Act}
 use Rattle.spd_nodes.specs.declared.forest.StoreFault.{StoreFault}
-use Rattle.spd_nodes.specs.Levels.{slots, InRange}
-use Rattle.spd_nodes.specs.Trees.{Tree, Ends, IsFrom, IsReduced, value_at, tree_of}
-use Rattle.spd_nodes.specs.States.{Function, IsState, point, plain_part, primed_part, test_tree, test_trees, function_of, Agree}
-use Rattle.spd_nodes.specs.Shown.{Shown, IsSound, Grows, MakesOnly, MakesNodesOf, FaultsAt, Faults, KnowsAs, IsWhole, StandsFor, meaning}
+use Rattle.spd_nodes.specs.Levels.{slots}
+use Rattle.spd_nodes.specs.Trees.{Tree, Ends, IsFrom, IsReduced, value_at}
+use Rattle.spd_nodes.specs.States.{Function, point, plain_part, primed_part, test_tree, function_of, Agree}
+use Rattle.spd_nodes.specs.Shown.{Shown, IsSound, MakesOnly, MakesNodesOf, FaultsAt, Faults, KnowsAs, IsWhole, StandsFor, meaning}
 use Rattle.spd_nodes.proofs.TreeLaws.{tree_of-value_at, tree_of-agree}
 use Rattle.spd_nodes.proofs.StateLaws.{positive-slots, test_tree-value, IsPointOf, point-parts}
-use Rattle.spd_nodes.proofs.ShownLaws.{stands-for}
 use Rattle.spd_memo.specs.Kept.{Kept}
 use Rattle.spd_apply.specs.Applied.{applied, fit_mark, AllFit, MayApply}
 use Rattle.spd_apply.specs.Outcome.{at_each, FitEverywhere}
-use Rattle.spd_apply.specs.Rules.{Making, HoldsAnswers, IsReady, Did}
+use Rattle.spd_apply.specs.Rules.{HoldsAnswers, IsReady}
 use Rattle.spd_apply.proofs.AppliedLaws.{applied-whole, applied-tree_of, value_at-applied}
 use Rattle.spd_apply.proofs.HalfLaws.{aligned-from}
 

@@ -1,5 +1,5 @@
 -- An operation on leaves, carried to trees.
-use Rattle.std.specs.Prelude.{◌≡◌, ℕ, ◌<◌, ◌==◌, Bool, true, cond, nat_lt, List}
+use Rattle.std.specs.Prelude.{◌≡◌, ℕ, Bool, cond, nat_lt, List}
 use Rattle.spd_nodes.specs.Levels.{slots}
 use Rattle.spd_apply.specs.Halves.{IsAligned}
 use Rattle.spd_nodes.specs.declared.leaf.Leaf.{Leaf}

@@ -1,5 +1,5 @@
 -- A tree where a test holds, and where it doesn't.
-use Rattle.std.specs.Prelude.{◌≡◌, ℕ, ◌-◌, ◌<◌, ◌⊎◌, ◌==◌, cond, List, max}
+use Rattle.std.specs.Prelude.{◌≡◌, ℕ, ◌<◌, ◌⊎◌, ◌==◌, cond, List, max}
 use Rattle.spd_nodes.specs.Levels.{after}
 use Rattle.spd_nodes.specs.Trees.{Tree, Ends, Tests, IsFrom, tree_rank}
 

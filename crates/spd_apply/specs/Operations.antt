@@ -1,6 +1,6 @@
 -- The operations and maps of leaves. Where a leaf is of another kind, an operation isn't defined, and its value here is the
 -- first leaf.
-use Rattle.std.specs.Prelude.{ℕ, ◌^◌, ◌&&◌, Bool, true, false, cond, nat_lt, ℤ, pos, negsuc, int_le, unsigned_abs}
+use Rattle.std.specs.Prelude.{ℕ, ◌^◌, Bool, true, false, cond, nat_lt, ℤ, pos, negsuc, int_le, unsigned_abs}
 use Rattle.std.specs.Ordering.{int_eq}
 use Rattle.spd_nodes.specs.declared.leaf.Leaf.{Leaf}
 use Rattle.spd_nodes.specs.declared.leaf.Leaf.TheVariants.{Num, Pair, Act}

@@ -1,5 +1,5 @@
 -- How an operation on diagrams goes down: what it makes of two trees, said of the trees below theirs.
-use Rattle.std.specs.Prelude.{◌≡◌, ℕ, ◌+◌, ◌<◌, ◌≤◌, List, [], ◌∷◌, true, Contains}
+use Rattle.std.specs.Prelude.{◌≡◌, ℕ, ◌+◌, ◌<◌, ◌≤◌, [], ◌∷◌, true, Contains}
 use Rattle.spd_cons_core.specs.declared.key.Entry.{Entry}
 use Rattle.spd_memo.specs.Kept.{Kept}
 use Rattle.spd_nodes.specs.Levels.{levels_of, slots}

@@ -1,5 +1,5 @@
 -- The views of two entries, and where an operation goes on from them.
-use Rattle.std.specs.Prelude.{ℕ, ◌==◌, cond, nat_lt}
+use Rattle.std.specs.Prelude.{◌==◌, cond, nat_lt}
 use Rattle.spd_cons_core.specs.declared.key.Entry.{Entry}
 use Rattle.spd_nodes.specs.declared.layout.Level.{Level}
 use Rattle.spd_nodes.specs.declared.forest.View.{View}

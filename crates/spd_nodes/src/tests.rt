@@ -69,7 +69,10 @@ fn indicator_alone<L: Ledger>(alloc: Global, blank: Blank) -> Result<(usize, u64
 
 #[test]
 fn an_indicator_has_three_nodes(rt: HostRuntime) -> Result<(), Fail> {
-    assert_eq!(rt; indicator_alone::<Brand>(rt.alloc(), Blank::new(1))?, (3, 3));
+    assert_eq!(rt;
+        indicator_alone::<Brand>(rt.alloc(), Blank::new(1))?,
+        (3, 3)
+    );
     Ok(())
 }
 

@@ -1,13 +1,12 @@
 -- A tree with one slot at a value has the tree's values there, and is reduced.
-use Rattle.std.proofs.Common.{◌≡◌, ℕ, zero, suc, ◌+◌, ◌-◌, ◌*◌, ◌<◌, ◌≤◌, ◌≢◌, ◌⊎◌, inl, inr, ◌==◌, Bool, true, false, cond, List, [], ◌∷◌, set, refl, sym, ◌∙◌, ap, subst, arith, true≢false}
+use Rattle.std.proofs.Common.{◌≡◌, ℕ, ◌+◌, ◌-◌, ◌<◌, ◌≤◌, ◌≢◌, ◌⊎◌, inl, inr, ◌==◌, Bool, true, false, cond, List, set, refl, sym, ◌∙◌, subst, arith, true≢false}
 use Rattle.std.specs.Prelude.{nat_lt}
 use Rattle.std.proofs.lemmas.Bool.Decides.{Decides-eqb, nat_tests}
-use Rattle.spd_nodes.specs.declared.leaf.Leaf.{Leaf}
-use Rattle.spd_nodes.specs.Levels.{levels_of, passes, after, is_first, InRange}
+use Rattle.spd_nodes.specs.Levels.{levels_of, passes, after, InRange}
 use Rattle.spd_nodes.specs.Trees.{Tree, Ends, Tests, value_at, IsFrom, IsAt, IsReduced, CanTest, join}
 use Rattle.spd_nodes.proofs.TreeLaws.{after_above}
 use Rattle.spd_nodes.proofs.ValueLaws.{value_at-join}
-use Rattle.spd_apply.proofs.HalfLaws.{Fits, after-next, first0, level_of-reduced, Joins, joins, IsFrom-at, IsFrom-lower, at-from, after_le, after0}
+use Rattle.spd_apply.proofs.HalfLaws.{Fits, after-next, first0, level_of-reduced, Joins, joins, IsFrom-at, IsFrom-lower, after0}
 use Rattle.spd_restrict.specs.Restricted.{cofactored, IsSlot, IsUpTo}
 use Rattle.spd_restrict.proofs.SlotLaws.{after-in, after-before, first-in, passes-in, passes-before, passes-past}
 

@@ -1,11 +1,11 @@
 -- A tree with each plain test primed has the tree's values at the next state, and is reduced.
-use Rattle.std.proofs.Common.{◌≡◌, ℕ, zero, suc, ◌+◌, ◌-◌, ◌*◌, ◌<◌, ◌≤◌, ◌≢◌, ◌⊎◌, inl, inr, ◌==◌, Bool, true, false, cond, List, [], ◌∷◌, length, get_or, take, refl, sym, ◌∙◌, ap, subst, arith, true≢false}
-use Rattle.std.specs.Prelude.{nat_lt, max}
-use Rattle.std.proofs.lemmas.Bool.Decides.{Decides-eqb, nat_tests}
+use Rattle.std.proofs.Common.{◌≡◌, ℕ, zero, suc, ◌+◌, ◌-◌, ◌*◌, ◌<◌, ◌≤◌, ◌⊎◌, inl, inr, ◌==◌, Bool, true, false, cond, List, [], ◌∷◌, length, get_or, take, refl, sym, ◌∙◌, ap, subst, arith, true≢false}
+use Rattle.std.specs.Prelude.{nat_lt}
+use Rattle.std.proofs.lemmas.Bool.Decides.{nat_tests}
 use Rattle.spd_cons_core.specs.declared.key.Entry.{Entry}
 use Rattle.spd_nodes.specs.declared.leaf.Leaf.{Leaf}
 use Rattle.spd_nodes.specs.Levels.{levels_of, passes, after, is_first, slots, level_at, IsTestOf}
-use Rattle.spd_nodes.specs.Trees.{Tree, Ends, Tests, tree_rank, value_at, IsFrom, IsAt, IsReduced, CanTest, join}
+use Rattle.spd_nodes.specs.Trees.{Tree, Ends, Tests, value_at, IsFrom, IsAt, IsReduced, CanTest, join}
 use Rattle.spd_nodes.specs.States.{IsState, point, function_of, Agree}
 use Rattle.spd_nodes.specs.Shown.{Shown, IsSound, IsWhole, meaning}
 use Rattle.spd_nodes.proofs.LayoutLaws.{level-primed, level-plain}
@@ -13,7 +13,7 @@ use Rattle.spd_nodes.proofs.RankLaws.{rank-view}
 use Rattle.spd_nodes.proofs.TreeLaws.{after_above}
 use Rattle.spd_nodes.proofs.ValueLaws.{value_at-join}
 use Rattle.spd_apply.specs.declared.rule.Below.TheVariants as B
-use Rattle.spd_apply.specs.Rules.{Making, MayMeet, PlansBelow, PlansTest}
+use Rattle.spd_apply.specs.Rules.{Making, PlansBelow, PlansTest}
 use Rattle.spd_apply.proofs.HalfLaws.{Fits, after-next, first0, Joins, joins, IsFrom-at, IsFrom-lower}
 use Rattle.spd_restrict.specs.Primed.{primed, is_plain_level, primed_level, TestsNoPrimed, primed_tree, MayPrime}
 use Rattle.spd_restrict.proofs.CofactorLaws.{Parts, parts}
@@ -101,10 +101,10 @@ after-before (d ∷ ds) l k h i q = elim (plain-cases d ds l h) [
   | inr a ↦ elim (plain-cases d ds k i) [
     | inl b ↦ absurd (omega (arith, after-there d ds l a.0))
     | inr b ↦ (
-      let j : after (slots ds) (primed_level ds (l - 2 * (d - 1))) ≤ primed_level ds (k - 2 * (d - 1)) = after-before ds (l - 2 * (d - 1)) (k - 2 * (d - 1)) a.1 b.1 (omega (arith, after-there d ds l a.0)) in
-      let m : (2 * (d - 1) + primed_level ds (l - 2 * (d - 1))) - 2 * (d - 1) ≡ primed_level ds (l - 2 * (d - 1)) = omega arith in
-      rw (a.2, b.2) (rw (after-there d ds (2 * (d - 1) + primed_level ds (l - 2 * (d - 1))) (omega arith), m) (omega arith))
-    )
+        let j : after (slots ds) (primed_level ds (l - 2 * (d - 1))) ≤ primed_level ds (k - 2 * (d - 1)) = after-before ds (l - 2 * (d - 1)) (k - 2 * (d - 1)) a.1 b.1 (omega (arith, after-there d ds l a.0)) in
+        let m : (2 * (d - 1) + primed_level ds (l - 2 * (d - 1))) - 2 * (d - 1) ≡ primed_level ds (l - 2 * (d - 1)) = omega arith in
+        rw (a.2, b.2) (rw (after-there d ds (2 * (d - 1) + primed_level ds (l - 2 * (d - 1))) (omega arith), m) (omega arith))
+        )
   ]
 ]
 
@@ -120,13 +120,13 @@ next-primed (d ∷ ds) l h q i = elim (plain-cases d ds l h) [
   | inr a ↦ elim (plain-cases d ds (l + 1) i) [
     | inl b ↦ absurd (omega arith)
     | inr b ↦ (
-      let e : (l + 1) - 2 * (d - 1) ≡ (l - 2 * (d - 1)) + 1 = omega arith in
-      let k : is_plain_level ds ((l - 2 * (d - 1)) + 1) ≡ true = rw e at b.1 in
-      let j = next-primed ds (l - 2 * (d - 1)) a.1 (omega (arith, after-there d ds l a.0)) k in
-      let f : primed_level (d ∷ ds) (l + 1) ≡ 2 * (d - 1) + primed_level ds ((l - 2 * (d - 1)) + 1) = b.2 ∙ ap (λ v. 2 * (d - 1) + primed_level ds v) e in
-      let m : (2 * (d - 1) + primed_level ds (l - 2 * (d - 1))) - 2 * (d - 1) ≡ primed_level ds (l - 2 * (d - 1)) = omega arith in
-      rw (f, a.2) (omega (arith, j.0), rw (after-there d ds (2 * (d - 1) + primed_level ds (l - 2 * (d - 1))) (omega arith), m) (omega (arith, j.1)))
-    )
+        let e : (l + 1) - 2 * (d - 1) ≡ (l - 2 * (d - 1)) + 1 = omega arith in
+        let k : is_plain_level ds ((l - 2 * (d - 1)) + 1) ≡ true = rw e at b.1 in
+        let j = next-primed ds (l - 2 * (d - 1)) a.1 (omega (arith, after-there d ds l a.0)) k in
+        let f : primed_level (d ∷ ds) (l + 1) ≡ 2 * (d - 1) + primed_level ds ((l - 2 * (d - 1)) + 1) = b.2 ∙ ap (λ v. 2 * (d - 1) + primed_level ds v) e in
+        let m : (2 * (d - 1) + primed_level ds (l - 2 * (d - 1))) - 2 * (d - 1) ≡ primed_level ds (l - 2 * (d - 1)) = omega arith in
+        rw (f, a.2) (omega (arith, j.0), rw (after-there d ds (2 * (d - 1) + primed_level ds (l - 2 * (d - 1))) (omega arith), m) (omega (arith, j.1)))
+        )
   ]
 ]
 
@@ -135,16 +135,16 @@ first-primed : (ds : List ℕ) (l : ℕ) → is_plain_level ds l ≡ true → is
 first-primed [] l h q = absurd (true≢false (sym h))
 first-primed (d ∷ ds) l h q = elim (plain-cases d ds l h) [
   | inl a ↦ (
-    let t : nat_lt (l - (d - 1)) (d - 1) ≡ true = in-plain d l a.0 a.1 in
-    let b : nat_lt l (d - 1) ≡ false = not-primed d l a.0 in
-    let z : (l - (d - 1) == 0) ≡ true = rw (b, t) at q in
-    rw (a.2, t) z
-  )
+      let t : nat_lt (l - (d - 1)) (d - 1) ≡ true = in-plain d l a.0 a.1 in
+      let b : nat_lt l (d - 1) ≡ false = not-primed d l a.0 in
+      let z : (l - (d - 1) == 0) ≡ true = rw (b, t) at q in
+      rw (a.2, t) z
+      )
   | inr a ↦ (
-    let j : is_first (slots ds) (primed_level ds (l - 2 * (d - 1))) ≡ true = first-primed ds (l - 2 * (d - 1)) a.1 (sym (first-there d ds l a.0) ∙ q) in
-    let m : (2 * (d - 1) + primed_level ds (l - 2 * (d - 1))) - 2 * (d - 1) ≡ primed_level ds (l - 2 * (d - 1)) = omega arith in
-    rw a.2 (first-there d ds (2 * (d - 1) + primed_level ds (l - 2 * (d - 1))) (omega arith) ∙ ap (is_first (slots ds)) m ∙ j)
-  )
+      let j : is_first (slots ds) (primed_level ds (l - 2 * (d - 1))) ≡ true = first-primed ds (l - 2 * (d - 1)) a.1 (sym (first-there d ds l a.0) ∙ q) in
+      let m : (2 * (d - 1) + primed_level ds (l - 2 * (d - 1))) - 2 * (d - 1) ≡ primed_level ds (l - 2 * (d - 1)) = omega arith in
+      rw a.2 (first-there d ds (2 * (d - 1) + primed_level ds (l - 2 * (d - 1))) (omega arith) ∙ ap (is_first (slots ds)) m ∙ j)
+      )
 ]
 
 primed-below : (ds : List ℕ) (l : ℕ) → is_plain_level ds l ≡ true → primed_level ds l ≤ l
@@ -176,10 +176,10 @@ module _ (sizes : List ℕ) where
     no_fits = elim q.no_fits [
       | inl g ↦ inl (gn.from l h g)
       | inr g ↦ (
-        let j = next-primed sizes l h g.1 (plain-at (l + 1) n g.0 p) in
-        let f : Fits ds (primed_level sizes l + 1) (primed_tree sizes n) = subst (λ v. Fits ds v (primed_tree sizes n)) j.0 (gn.at (l + 1) g.0) in
-        elim f [ inl a ↦ inl (rw (after-next ds (primed_level sizes l) j.1) at a) | inr a ↦ inr (a, j.1) ]
-      )
+          let j = next-primed sizes l h g.1 (plain-at (l + 1) n g.0 p) in
+          let f : Fits ds (primed_level sizes l + 1) (primed_tree sizes n) = subst (λ v. Fits ds v (primed_tree sizes n)) j.0 (gn.at (l + 1) g.0) in
+          elim f [ inl a ↦ inl (rw (after-next ds (primed_level sizes l) j.1) at a) | inr a ↦ inr (a, j.1) ]
+          )
     ];
   }
 
@@ -202,12 +202,12 @@ module _ (sizes : List ℕ) where
           | inr k ↦ IsFrom-at ds 0 (primed_level sizes l) _ (omega arith) (first-primed sizes l p.0 (first0 ds l f.1)) k
         ];
         from = λ m h f. (
-          let b : after ds (primed_level sizes m) ≤ primed_level sizes l = after-before sizes m l h p.0 f.0 in
-          elim j.fits [
-            | inl k ↦ IsFrom-lower ds (after ds (primed_level sizes m)) (after ds (primed_level sizes l)) _ (omega arith) k
-            | inr k ↦ IsFrom-at ds (after ds (primed_level sizes m)) (primed_level sizes l) _ b (first-primed sizes l p.0 (first0 ds l f.1)) k
-          ]
-        );
+            let b : after ds (primed_level sizes m) ≤ primed_level sizes l = after-before sizes m l h p.0 f.0 in
+            elim j.fits [
+              | inl k ↦ IsFrom-lower ds (after ds (primed_level sizes m)) (after ds (primed_level sizes l)) _ (omega arith) k
+              | inr k ↦ IsFrom-at ds (after ds (primed_level sizes m)) (primed_level sizes l) _ b (first-primed sizes l p.0 (first0 ds l f.1)) k
+            ]
+            );
         at = λ k e. subst (λ v. Fits ds (primed_level sizes v) (primed_tree sizes (Tests l y n))) e j.fits;
       }
 
@@ -231,9 +231,9 @@ test-place (d ∷ ds) l zero v false h i j e = elim (plain-cases d ds l h) [ inl
 test-place (d ∷ ds) l (suc var) v b h i j e = elim (plain-cases d ds l h) [
   | inl a ↦ absurd (omega arith)
   | inr a ↦ (
-    let k : primed_level ds (l - 2 * (d - 1)) ≡ 2 * levels_of (take var ds) + v = test-place ds (l - 2 * (d - 1)) var v b a.1 (omega arith) j (omega arith) in
-    a.2 ∙ omega arith
-  )
+      let k : primed_level ds (l - 2 * (d - 1)) ≡ 2 * levels_of (take var ds) + v = test-place ds (l - 2 * (d - 1)) var v b a.1 (omega arith) j (omega arith) in
+      a.2 ∙ omega arith
+      )
 ]
 
 -- the primed test of a plain level's value

@@ -1,5 +1,5 @@
 -- A function of the next state in place of the present one, and the tests of its tree.
-use Rattle.std.specs.Prelude.{◌≡◌, ℕ, ◌+◌, ◌-◌, ◌*◌, ◌<◌, Bool, true, false, cond, nat_lt, List, [], ◌∷◌}
+use Rattle.std.specs.Prelude.{◌≡◌, ℕ, ◌+◌, ◌-◌, ◌*◌, Bool, true, false, cond, nat_lt, List, [], ◌∷◌}
 use Rattle.spd_nodes.specs.Trees.{Tree, Ends, Tests, join}
 use Rattle.spd_nodes.specs.States.{Function}
 

@@ -13,7 +13,7 @@ abbrev pub cofactored : ℕ → ℕ → ℕ → Tree → Tree
 cofactored first end value (Ends a) = Ends a
 cofactored first end value (Tests l y n) =
     cond (nat_lt l first) (join l (cofactored first end value y) (cofactored first end value n))
-      (cond (nat_lt l end) (cond (l == first + value) y (cofactored first end value n)) (Tests l y n))
+    (cond (nat_lt l end) (cond (l == first + value) y (cofactored first end value n)) (Tests l y n))
 
 -- a slot's tests are the levels from `first` to below `end`
 pub record IsSlot (ds : List ℕ) (slot first end : ℕ) : Type 0 where

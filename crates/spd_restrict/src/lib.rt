@@ -6,3 +6,6 @@ pub mod next;
 
 pub use fixed::cofactor;
 pub use next::prime;
+
+#[cfg(test)]
+mod tests;

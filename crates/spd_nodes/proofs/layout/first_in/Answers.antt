@@ -1,4 +1,4 @@
-use Rattle.std.proofs.Common.{arith, ◌≡◌, ◌∙◌, ◌+◌, ◌-◌, get_or, sym, ap}
+use Rattle.std.proofs.Common.{arith}
 use Rattle.spd_nodes.proofs.LayoutLaws.{fits-at, level-primed, level-plain}
 use Rattle.spd_nodes.proofs.layout.first_in.Goals as goal
 
