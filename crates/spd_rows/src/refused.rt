@@ -342,7 +342,7 @@ fn unusual_files(rt: HostRuntime) -> Result<(), Fail> {
         ),
         (
             "a discount of 0.999999",
-            b"(variables (x a b)) action s x (x' (a (1)) (b (0))) endaction reward (1) discount 0.999999 tolerance 1",
+            b"(variables (x a b)) action s x (x' (a (1)) (b (0))) endaction reward (0) discount 0.999999 tolerance 1",
         ),
         (
             "nine digits before the point",
