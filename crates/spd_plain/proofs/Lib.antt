@@ -17,5 +17,6 @@ pub mod Gaps
 pub mod SweepLaws
 pub mod Runs
 pub mod Valid
+pub mod StopLaws
 pub mod Shapes
 pub mod Invalid

@@ -10,5 +10,5 @@ mod states;
 mod sweep;
 mod validity;
 
-pub use law::law_bounded;
+pub use law::{law_bounded, law_stop};
 pub use solve::{Plain, PlainFault, plain_solve};
