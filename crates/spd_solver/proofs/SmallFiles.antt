@@ -22,7 +22,6 @@ words_none (suc n) tokens none = ap (words_step (words_at n) tokens) none
 
 module _ (front : List (List ℕ)) (count i : ℕ) (tokens : List Token) (total : List (List ℕ) × List Token)
     (so_far : with_words front (words_at (count - i) tokens) ≡ total) where
-
   pub words_stop : word_at tokens ≡ None → total ≡ (front, tokens)
   words_stop none =
       sym so_far ∙ ap (with_words front) (words_none (count - i) tokens none) ∙ ap (λ (words : List (List ℕ)). (words, tokens)) (append-nil front)
@@ -56,7 +55,6 @@ regroup front action (Some x) = ap (λ (actions : List Action). Some (actions, x
 
 module _ (var : Var) (front : List Action) (count i : ℕ) (tokens : List Token) (total : Option (List Action × List Token))
     (so_far : with_actions front (actions_at var (count - i) tokens) ≡ total) where
-
   stopped : (n : ℕ) → begins_action tokens ≡ false → actions_at var n tokens ≡ Some ([], tokens)
   unfolding actions_at
   stopped zero none = refl
@@ -110,7 +108,6 @@ front_of (name ∷ names) some first is =
 
 module _ (names : List (List ℕ)) (some : 0 < length names) (first : List ℕ) (is : first ≡ get_or names 0 first) (found : Bool)
     (found_is : found ≡ list_any (bytes_eq first) (take (length names - 1) (drop 1 names))) where
-
   pub distinct_more : found ≡ false → are_distinct (take (length names - 1) (drop 1 names)) ≡ are_distinct names
   distinct_more none = sym (front_of names some first is ∙ ap (λ (b : Bool). not b && are_distinct (take (length names - 1) (drop 1 names))) (sym found_is ∙ none))
 

@@ -70,7 +70,7 @@ variable_again : (name : List ℕ) (values : List (List ℕ)) (rest : List Token
 unfolding variable_at
 variable_again name values rest named all distinct least most =
     let after : List ℕ × List Token → Option (Var × List Token) = λ name.
-      closing_at (words_at 64 name.1).1 >>= λ rest. variable_of name.0 (words_at 64 name.1).0 >>= λ var. Some (var, rest) in
+    closing_at (words_at 64 name.1).1 >>= λ rest. variable_of name.0 (words_at 64 name.1).0 >>= λ var. Some (var, rest) in
     let tokens = map word values ++ closing ∷ rest in
     ap (λ (o : Option (List Token)). o >>= λ inside. word_at inside >>= after) (opening_again (word name ∷ tokens))
     ∙ ap (λ (o : Option (List ℕ × List Token)). o >>= after) (word_again name tokens)
@@ -95,7 +95,7 @@ module _ (var : Var) (some : 0 < length var.values) where
   unfolding action_at
   action_again text table rest named same means =
       let last : List ℕ → List ℕ → Tree × List Token → Option (Action × List Token) = λ name variable table.
-        keyword_at (codes "endaction") table.1 >>= λ rest. action_of var name variable table.0 >>= λ action. Some (action, rest) in
+      keyword_at (codes "endaction") table.1 >>= λ rest. action_of var name variable table.0 >>= λ action. Some (action, rest) in
       let shape = tokens_of_tree text.table in
       let end : List Token = word (codes "endaction") ∷ rest in
       ap (λ (ts : List Token). action_at var (word (codes "action") ∷ word text.name ∷ word text.variable ∷ ts)) (append_assoc shape (word (codes "endaction") ∷ []) rest)
@@ -153,7 +153,7 @@ settings_again : (discount tolerance : List ℕ) (g t : ℕ) → IsNumber 6 6 di
 unfolding settings_at discount_of
 settings_again discount tolerance g t is below means =
     let last : List ℕ → List ℕ × List Token → Option (ℕ × ℕ) = λ discount tolerance.
-      discount_of discount >>= λ g. number_of 9 9 tolerance.0 >>= λ t. cond (eqb (length tolerance.1) 0) (Some (g, t)) None in
+    discount_of discount >>= λ g. number_of 9 9 tolerance.0 >>= λ t. cond (eqb (length tolerance.1) 0) (Some (g, t)) None in
     ap (λ (o : Option (List Token)). o >>= λ first. word_at first >>= λ discount. keyword_at (codes "tolerance") discount.1 >>= λ second. word_at second >>= last discount.0)
     (keyword_again (codes "discount") (word discount ∷ word (codes "tolerance") ∷ word tolerance ∷ []))
     ∙ ap (λ (o : Option (List ℕ × List Token)). o >>= λ discount. keyword_at (codes "tolerance") discount.1 >>= λ second. word_at second >>= last discount.0)
@@ -176,7 +176,7 @@ parts_again : (var : Var) (texts : List ActionText) (actions : List Action) (sha
     → length texts ≤ 64 → 1 ≤ length texts → MeansActions var texts actions → AreDistinct (map (λ (a : Action). a.name) actions) → MeansTree Reward var 300 shape reward
     → IsNumber 6 6 discount g → g < 1000000 → IsNumber 9 9 tolerance t
     → file_at (from_left var.name (map word var.values) (flat_map tokens_of_action texts) (tokens_of_tree shape)
-      (word (codes "discount") ∷ word discount ∷ word (codes "tolerance") ∷ word tolerance ∷ [])) ≡ Some (process var actions reward (g, t))
+    (word (codes "discount") ∷ word discount ∷ word (codes "tolerance") ∷ word tolerance ∷ [])) ≡ Some (process var actions reward (g, t))
 unfolding file_at
 parts_again var texts actions shape reward discount tolerance g t named values differ least most few some means distinct tree is below is_tolerance =
     let end : List Token = word (codes "discount") ∷ word discount ∷ word (codes "tolerance") ∷ word tolerance ∷ [] in
@@ -184,8 +184,8 @@ parts_again var texts actions shape reward discount tolerance g t named values d
     let behind_variable = flat_map tokens_of_action texts ++ behind_actions in
     let inside : List Token = opening ∷ word var.name ∷ (map word var.values ++ closing ∷ closing ∷ behind_variable) in
     let behind : Var × List Token → Option Process = λ x.
-      closing_at x.1 >>= λ rest. named_actions_at x.0 rest >>= λ a. keyword_at (codes "reward") a.1 >>= λ after.
-      tree_at Reward x.0 300 after >>= λ reward. settings_at reward.1 >>= λ s. Some (process x.0 a.0 reward.0 s) in
+    closing_at x.1 >>= λ rest. named_actions_at x.0 rest >>= λ a. keyword_at (codes "reward") a.1 >>= λ after.
+    tree_at Reward x.0 300 after >>= λ reward. settings_at reward.1 >>= λ s. Some (process x.0 a.0 reward.0 s) in
     let last : List Action → Tree × List Token → Option Process = λ actions reward. settings_at reward.1 >>= λ s. Some (process var actions reward.0 s) in
     let positive : 0 < length var.values = omega (arith, least) in
     ap (λ (o : Option (List Token)). o >>= λ first. keyword_at (codes "variables") first >>= λ inside. variable_at inside >>= behind) (opening_again (word (codes "variables") ∷ inside))

@@ -59,19 +59,23 @@ variable_of_takes name values var e =
     let two = neither (not (is_name name) || not (list_all is_value_name values)) (not (are_distinct values)) three.0 in
     let one = neither (not (is_name name)) (not (list_all is_value_name values)) two.0 in
     let same : made ≡ var = cc in
-    subst (λ (x : Var). (x.name ≡ name) × (x.values ≡ values) × IsVariable x) same (refl, refl, record {
-      named = not_false _ one.0;
-      values = AllPass-from_list_all is_value_name values (not_false _ one.1);
-      differ = distinct_pairs values (not_false _ two.1);
-      least = ltb-false _ _ three.1;
-    })
+    subst (λ (x : Var). (x.name ≡ name) × (x.values ≡ values) × IsVariable x) same (
+      refl,
+      refl,
+      record {
+        named = not_false _ one.0;
+        values = AllPass-from_list_all is_value_name values (not_false _ one.1);
+        differ = distinct_pairs values (not_false _ two.1);
+        least = ltb-false _ _ three.1;
+      },
+    )
 
 pub variable_takes : (tokens : List Token) (x : Var × List Token) → variable_at tokens ≡ Some x
     → (tokens ≡ opening ∷ word x.0.name ∷ map word x.0.values ++ closing ∷ x.1) × IsVariable x.0 × (length x.0.values ≤ 64)
 unfolding variable_at
 variable_takes tokens x e =
     let after : List ℕ × List Token → Option (Var × List Token) = λ name.
-      closing_at (words_at 64 name.1).1 >>= λ rest. variable_of name.0 (words_at 64 name.1).0 >>= λ var. Some (var, rest) in
+    closing_at (words_at 64 name.1).1 >>= λ rest. variable_of name.0 (words_at 64 name.1).0 >>= λ var. Some (var, rest) in
     let i = bind_some (opening_at tokens) (λ inside. word_at inside >>= after) x e in
     let name = bind_some (word_at i.0) after x i.2 in
     let words = words_at 64 name.0.1 in
@@ -113,7 +117,7 @@ action_takes : (var : Var) (tokens : List Token) (x : Action × List Token) → 
 unfolding action_at
 action_takes var tokens x e =
     let last : List ℕ → List ℕ → Tree × List Token → Option (Action × List Token) = λ name variable table.
-      keyword_at (codes "endaction") table.1 >>= λ rest. action_of var name variable table.0 >>= λ action. Some (action, rest) in
+    keyword_at (codes "endaction") table.1 >>= λ rest. action_of var name variable table.0 >>= λ action. Some (action, rest) in
     let k = bind_some (keyword_at (codes "action") tokens) (λ inside. word_at inside >>= λ name. word_at name.1 >>= λ variable. tree_at Table var 300 variable.1 >>= last name.0 variable.0) x e in
     let name = bind_some (word_at k.0) (λ name. word_at name.1 >>= λ variable. tree_at Table var 300 variable.1 >>= last name.0 variable.0) x k.2 in
     let variable = bind_some (word_at name.0.1) (λ variable. tree_at Table var 300 variable.1 >>= last name.0.0 variable.0) x name.2 in
@@ -164,8 +168,8 @@ more_actions var n tokens sound true x e =
     subst (TookActions var (suc n) tokens) same (record {
       texts = first.text ∷ rest.texts;
       spelled = first.spelled ∙ ap (λ (ts : List Token). tokens_of_action first.text ++ ts) rest.spelled
-      ∙ sym (append_assoc (tokens_of_action first.text) (flat_map tokens_of_action rest.texts) m.0.1)
-      ∙ ap (λ (ts : List Token). ts ++ m.0.1) (sym (flat_map-cons tokens_of_action first.text rest.texts));
+          ∙ sym (append_assoc (tokens_of_action first.text) (flat_map tokens_of_action rest.texts) m.0.1)
+          ∙ ap (λ (ts : List Token). ts ++ m.0.1) (sym (flat_map-cons tokens_of_action first.text rest.texts));
       means = (first.table, m.0.0, ap (λ (a : Action). a ∷ m.0.0) first.is, first.has_name, first.of_variable, first.means, rest.means);
       few = omega (arith, rest.few);
       as_many = ap suc rest.as_many;
@@ -199,7 +203,7 @@ pub settings_take : (tokens : List Token) (x : ℕ × ℕ) → settings_at token
 unfolding settings_at
 settings_take tokens x e =
     let last : List ℕ → List ℕ × List Token → Option (ℕ × ℕ) = λ discount tolerance.
-      discount_of discount >>= λ g. number_of 9 9 tolerance.0 >>= λ t. cond (eqb (length tolerance.1) 0) (Some (g, t)) None in
+    discount_of discount >>= λ g. number_of 9 9 tolerance.0 >>= λ t. cond (eqb (length tolerance.1) 0) (Some (g, t)) None in
     let k = bind_some (keyword_at (codes "discount") tokens) (λ first. word_at first >>= λ discount. keyword_at (codes "tolerance") discount.1 >>= λ second. word_at second >>= last discount.0) x e in
     let d = bind_some (word_at k.0) (λ discount. keyword_at (codes "tolerance") discount.1 >>= λ second. word_at second >>= last discount.0) x k.2 in
     let l = bind_some (keyword_at (codes "tolerance") d.0.1) (λ second. word_at second >>= last d.0.0) x d.2 in
@@ -316,25 +320,33 @@ file_end tokens first inside x c a r t s p opened keyword is closed actions rewa
     let values = map word x.0.values in
     let end : List Token = word (codes "discount") ∷ word settings.discount ∷ word (codes "tolerance") ∷ word settings.tolerance ∷ [] in
     let spelled = spelled_parts tokens first inside x.1 c a.1 r t.1 x.0.name values texts (tokens_of_tree tree.0) end
-            opened keyword is.0 closed actions.0.spelled reward tree.1 settings.spelled in
-    subst (TookFile tokens) same (record {
-      variable = x.0.name; values = x.0.values; actions = actions.0.texts; reward = tree.0; discount = settings.discount; tolerance = settings.tolerance
-    }, spelled ∙ regrouped x.0.name values texts (tokens_of_tree tree.0) end,
-    means_parts x.0 c a tree.0 t.0 t.1 s is.1 is.2 actions.0 actions.1 actions.2 tree.2 settings)
+    opened keyword is.0 closed actions.0.spelled reward tree.1 settings.spelled in
+    subst (TookFile tokens) same (
+      record {
+        variable = x.0.name;
+        values = x.0.values;
+        actions = actions.0.texts;
+        reward = tree.0;
+        discount = settings.discount;
+        tolerance = settings.tolerance;
+      },
+      spelled ∙ regrouped x.0.name values texts (tokens_of_tree tree.0) end,
+      means_parts x.0 c a tree.0 t.0 t.1 s is.1 is.2 actions.0 actions.1 actions.2 tree.2 settings,
+    )
 
 -- the rest of a file, behind its values
 file_behind : (tokens after_opening after_keyword : List Token) (x : Var × List Token) (p : Process)
     → tokens ≡ opening ∷ after_opening → after_opening ≡ word (codes "variables") ∷ after_keyword
     → (after_keyword ≡ opening ∷ word x.0.name ∷ map word x.0.values ++ closing ∷ x.1) × IsVariable x.0 × (length x.0.values ≤ 64)
     → (closing_at x.1 >>= λ rest. named_actions_at x.0 rest >>= λ a. keyword_at (codes "reward") a.1 >>= λ after.
-      tree_at Reward x.0 300 after >>= λ reward. settings_at reward.1 >>= λ s. Some (process x.0 a.0 reward.0 s)) ≡ Some p
+    tree_at Reward x.0 300 after >>= λ reward. settings_at reward.1 >>= λ s. Some (process x.0 a.0 reward.0 s)) ≡ Some p
     → TookFile tokens p
 file_behind tokens first inside x p opened keyword is e =
     let var = x.0 in
     let c = bind_some (closing_at x.1) (λ rest. named_actions_at var rest >>= λ a. keyword_at (codes "reward") a.1 >>= λ after.
-      tree_at Reward var 300 after >>= λ reward. settings_at reward.1 >>= λ s. Some (process var a.0 reward.0 s)) p e in
+    tree_at Reward var 300 after >>= λ reward. settings_at reward.1 >>= λ s. Some (process var a.0 reward.0 s)) p e in
     let a = bind_some (named_actions_at var c.0) (λ a. keyword_at (codes "reward") a.1 >>= λ after.
-      tree_at Reward var 300 after >>= λ reward. settings_at reward.1 >>= λ s. Some (process var a.0 reward.0 s)) p c.2 in
+    tree_at Reward var 300 after >>= λ reward. settings_at reward.1 >>= λ s. Some (process var a.0 reward.0 s)) p c.2 in
     let r = bind_some (keyword_at (codes "reward") a.0.1) (λ after. tree_at Reward var 300 after >>= λ reward. settings_at reward.1 >>= λ s. Some (process var a.0.0 reward.0 s)) p a.2 in
     let t = bind_some (tree_at Reward var 300 r.0) (λ reward. settings_at reward.1 >>= λ s. Some (process var a.0.0 reward.0 s)) p r.2 in
     let s = bind_some (settings_at t.0.1) (λ s. Some (process var a.0.0 t.0.0 s)) p t.2 in
@@ -347,8 +359,8 @@ pub file_takes : (tokens : List Token) (p : Process) → file_at tokens ≡ Some
 unfolding file_at
 file_takes tokens p e =
     let behind : Var × List Token → Option Process = λ x.
-      closing_at x.1 >>= λ rest. named_actions_at x.0 rest >>= λ a. keyword_at (codes "reward") a.1 >>= λ after.
-      tree_at Reward x.0 300 after >>= λ reward. settings_at reward.1 >>= λ s. Some (process x.0 a.0 reward.0 s) in
+    closing_at x.1 >>= λ rest. named_actions_at x.0 rest >>= λ a. keyword_at (codes "reward") a.1 >>= λ after.
+    tree_at Reward x.0 300 after >>= λ reward. settings_at reward.1 >>= λ s. Some (process x.0 a.0 reward.0 s) in
     let o = bind_some (opening_at tokens) (λ first. keyword_at (codes "variables") first >>= λ inside. variable_at inside >>= behind) p e in
     let k = bind_some (keyword_at (codes "variables") o.0) (λ inside. variable_at inside >>= behind) p o.2 in
     let x = bind_some (variable_at k.0) behind p k.2 in

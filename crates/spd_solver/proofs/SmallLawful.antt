@@ -75,13 +75,12 @@ module _ (var : Var) (actions : List Action) (reward : Tree) (s : ℕ × ℕ) wh
 
 module _ (P : Action → Type 0) (var : Var)
     (made : (name : List ℕ) (table : Tree) (tokens rest : List Token) → IsTrue (is_name name) → tree_at Table var 300 tokens ≡ Some (table, rest)
-      → P (record { name = name; tables = table ∷ []; cost = [] })) where
-
+    → P (record { name = name; tables = table ∷ []; cost = [] })) where
   action_holds : (tokens : List Token) (x : Action × List Token) → action_at var tokens ≡ Some x → P x.0
   unfolding action_at
   action_holds tokens x e =
       let last : List ℕ → List ℕ → Tree × List Token → Option (Action × List Token) = λ name variable table.
-        keyword_at (codes "endaction") table.1 >>= λ rest. action_of var name variable table.0 >>= λ action. Some (action, rest) in
+      keyword_at (codes "endaction") table.1 >>= λ rest. action_of var name variable table.0 >>= λ action. Some (action, rest) in
       let k = bind_some (keyword_at (codes "action") tokens) (λ inside. word_at inside >>= λ name. word_at name.1 >>= λ variable. tree_at Table var 300 variable.1 >>= last name.0 variable.0) x e in
       let name = bind_some (word_at k.0) (λ name. word_at name.1 >>= λ variable. tree_at Table var 300 variable.1 >>= last name.0 variable.0) x k.2 in
       let variable = bind_some (word_at name.0.1) (λ variable. tree_at Table var 300 variable.1 >>= last name.0.0 variable.0) x name.2 in
@@ -126,20 +125,20 @@ lawful_end inside x rest a after t others s variable actions tree settings =
     let took = named_actions_take x.0 rest a actions in
     let set = settings_take others s settings in
     let each = named_actions_hold (IsAction m) x.0
-            (λ name table tokens behind named read. action_lawful x.0 a.0 t.0 s name table named (tree_fits Table m x.0 (omega arith) refl 300 tokens (table, behind) read)) rest a actions in
+    (λ name table tokens behind named read. action_lawful x.0 a.0 t.0 s name table named (tree_fits Table m x.0 (omega arith) refl 300 tokens (table, behind) read)) rest a actions in
     lawful_parts x.0 a.0 t.0 s is.1 is.2 each took.1 (omega (arith, took.0.few, took.0.as_many)) took.2
     (tree_fits Reward m x.0 (omega arith) refl 300 after t tree) set.below_one (IsNumber-lt 9 9 set.tolerance s.1 set.tolerance_is (omega arith) (omega arith))
 
 lawful_behind : (inside : List Token) (x : Var × List Token) (p : Process) → variable_at inside ≡ Some x
     → (closing_at x.1 >>= λ rest. named_actions_at x.0 rest >>= λ a. keyword_at (codes "reward") a.1 >>= λ after.
-      tree_at Reward x.0 300 after >>= λ reward. settings_at reward.1 >>= λ s. Some (process x.0 a.0 reward.0 s)) ≡ Some p
+    tree_at Reward x.0 300 after >>= λ reward. settings_at reward.1 >>= λ s. Some (process x.0 a.0 reward.0 s)) ≡ Some p
     → IsLawful p
 lawful_behind inside x p variable e =
     let var = x.0 in
     let c = bind_some (closing_at x.1) (λ rest. named_actions_at var rest >>= λ a. keyword_at (codes "reward") a.1 >>= λ after.
-      tree_at Reward var 300 after >>= λ reward. settings_at reward.1 >>= λ s. Some (process var a.0 reward.0 s)) p e in
+    tree_at Reward var 300 after >>= λ reward. settings_at reward.1 >>= λ s. Some (process var a.0 reward.0 s)) p e in
     let a = bind_some (named_actions_at var c.0) (λ a. keyword_at (codes "reward") a.1 >>= λ after.
-      tree_at Reward var 300 after >>= λ reward. settings_at reward.1 >>= λ s. Some (process var a.0 reward.0 s)) p c.2 in
+    tree_at Reward var 300 after >>= λ reward. settings_at reward.1 >>= λ s. Some (process var a.0 reward.0 s)) p c.2 in
     let r = bind_some (keyword_at (codes "reward") a.0.1) (λ after. tree_at Reward var 300 after >>= λ reward. settings_at reward.1 >>= λ s. Some (process var a.0.0 reward.0 s)) p a.2 in
     let t = bind_some (tree_at Reward var 300 r.0) (λ reward. settings_at reward.1 >>= λ s. Some (process var a.0.0 reward.0 s)) p r.2 in
     let s = bind_some (settings_at t.0.1) (λ s. Some (process var a.0.0 t.0.0 s)) p t.2 in
@@ -150,8 +149,8 @@ pub file_lawful : (tokens : List Token) (p : Process) → file_at tokens ≡ Som
 unfolding file_at
 file_lawful tokens p e =
     let behind : Var × List Token → Option Process = λ x.
-      closing_at x.1 >>= λ rest. named_actions_at x.0 rest >>= λ a. keyword_at (codes "reward") a.1 >>= λ after.
-      tree_at Reward x.0 300 after >>= λ reward. settings_at reward.1 >>= λ s. Some (process x.0 a.0 reward.0 s) in
+    closing_at x.1 >>= λ rest. named_actions_at x.0 rest >>= λ a. keyword_at (codes "reward") a.1 >>= λ after.
+    tree_at Reward x.0 300 after >>= λ reward. settings_at reward.1 >>= λ s. Some (process x.0 a.0 reward.0 s) in
     let o = bind_some (opening_at tokens) (λ first. keyword_at (codes "variables") first >>= λ inside. variable_at inside >>= behind) p e in
     let k = bind_some (keyword_at (codes "variables") o.0) (λ inside. variable_at inside >>= behind) p o.2 in
     let x = bind_some (variable_at k.0) behind p k.2 in

@@ -71,7 +71,7 @@ number_takes most places text n e =
       whole_len = ltb-false _ _ one.1;
       fraction_len = ltb-false _ _ two.1;
       value = sym value ∙ ap (λ (x : ℕ). x * 10 ^ places + f.0 * 10 ^ (places - length fraction)) wd.1
-      ∙ ap (λ (y : ℕ). digits_value 10 whole * 10 ^ places + y * 10 ^ (places - length fraction)) fd.1;
+          ∙ ap (λ (y : ℕ). digits_value 10 whole * 10 ^ places + y * 10 ^ (places - length fraction)) fd.1;
     }
   where
     positive : (k : ℕ) → eqb k 0 ≡ false → 0 < k

@@ -113,7 +113,6 @@ record ReadAll (tree : List Token → Option (Tree × List Token)) (var : Var) (
 
 module _ (role : Role) (var : Var) (depth : ℕ) (tree : List Token → Option (Tree × List Token))
     (again : (shape : Shape) (t : Tree) (rest : List Token) → MeansTree role var depth shape t → tree (tokens_of_tree shape ++ rest) ≡ Some (t, rest)) where
-
   branch_again : (text : List ℕ) (shape : Shape) (v : ℕ) (kid : Tree) (rest : List Token) → value_number var text ≡ Some v → MeansTree role var depth shape kid
       → branch_at tree var (opening ∷ word text ∷ tokens_of_tree shape ++ closing ∷ rest) ≡ Some (v, kid, rest)
   unfolding branch_at
@@ -140,14 +139,14 @@ module _ (role : Role) (var : Var) (depth : ℕ) (tree : List Token → Option (
       let n = length (named others) in
       let behind = tokens_of_branches others ++ rest in
       let left = branches_again others more kids rest (Agrees-set slots kids v kid agrees means.3)
-              (fresh_after var slots v kid text means.2 others (apart_first text (named others) distinct) fresh.3) (distinct_rest text (named others) distinct) means.5 in
+      (fresh_after var slots v kid text means.2 others (apart_first text (named others) distinct) fresh.3) (distinct_rest text (named others) distinct) means.5 in
       let spelled : tokens_of_branches (branch text shape others) ++ rest ≡ opening ∷ word text ∷ tokens_of_tree shape ++ closing ∷ behind =
       ap (λ (ts : List Token). opening ∷ word text ∷ ts) (append_assoc (tokens_of_tree shape) (closing ∷ tokens_of_branches others) rest) in
       record {
         out = left.out;
         read = ap (branches_at tree var (suc n) slots) spelled
-        ∙ ap (λ (o : Option (ℕ × Tree × List Token)). o >>= λ b. filled slots b.0 b.1 >>= λ s. branches_at tree var n s b.2) (branch_again text shape v kid behind means.2 means.4)
-        ∙ ap (λ (o : Option (List (Option Tree))). o >>= λ s. branches_at tree var n s behind) (filled_again slots v kid free) ∙ left.read;
+            ∙ ap (λ (o : Option (ℕ × Tree × List Token)). o >>= λ b. filled slots b.0 b.1 >>= λ s. branches_at tree var n s b.2) (branch_again text shape v kid behind means.2 means.4)
+            ∙ ap (λ (o : Option (List (Option Tree))). o >>= λ s. branches_at tree var n s behind) (filled_again slots v kid free) ∙ left.read;
         agrees = left.agrees;
         left = omega (arith, left.left, free_count-set slots v kid free);
       }

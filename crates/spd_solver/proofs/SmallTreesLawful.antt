@@ -44,7 +44,7 @@ pub IsNumber-lt : (most places : ℕ) (text : List ℕ) (n : ℕ) → IsNumber m
 IsNumber-lt most places text n h most_le places_le =
     let all = both (list_all is_ascii_digit h.whole) (list_all is_ascii_digit h.fraction) (sym (list_all-append is_ascii_digit h.whole h.fraction) ∙ h.digits) in
     let bound = units_bound (digits_value 10 h.whole) (digits_value 10 h.fraction) (length h.whole) (length h.fraction) places h.whole_len (omega (arith, h.fraction_len)) places_le
-            (digits_value-lt 10 h.whole (all_digits h.whole all.0)) (digits_value-lt 10 h.fraction (all_digits h.fraction all.1)) in
+    (digits_value-lt 10 h.whole (all_digits h.whole all.0)) (digits_value-lt 10 h.fraction (all_digits h.fraction all.1)) in
     subst (λ (m : ℕ). m < 10 ^ 25) (sym h.value) bound
 
 -- nine digits after the point are whole units of 10^-9
@@ -122,7 +122,6 @@ all_of-each P (Some first ∷ slots) kids each e =
 
 module _ (P : Tree → Type 0) (tree : List Token → Option (Tree × List Token)) (var : Var)
     (holds : (tokens : List Token) (x : Tree × List Token) → tree tokens ≡ Some x → P x.0) where
-
   branch_holds : (tokens : List Token) (y : ℕ × Tree × List Token) → branch_at tree var tokens ≡ Some y → P y.1
   unfolding branch_at
   branch_holds tokens y e =
@@ -145,7 +144,7 @@ module _ (P : Tree → Type 0) (tree : List Token → Option (Tree × List Token
       let f = filled_takes slots m.0 b.0.0 b.0.1 m.1 in
       let more = slice_set slots b.0.0 (Some b.0.1) in
       let rest = branches_hold n more b.0.2 x (EachFilled-set P slots b.0.0 b.0.1 (branch_holds tokens b.0 b.1) each)
-              (subst (λ (s : List (Option Tree)). branches_at tree var n s b.0.2 ≡ Some x) f.1 m.2) in
+      (subst (λ (s : List (Option Tree)). branches_at tree var n s b.0.2 ≡ Some x) f.1 m.2) in
       (rest.0, rest.1 ∙ length_set slots b.0.0 (Some b.0.1))
 
 -- ---- trees
@@ -171,6 +170,7 @@ leaf_fits role m depth text n is = record {
     small : (role : Role) → IsNumber (most_digits role) 12 text n → unsigned_abs (pos n) ≤ 10 ^ 30
     small Table is = omega (arith, IsNumber-lt 12 12 text n is (omega arith) (omega arith))
     small Reward is = omega (arith, IsNumber-lt 9 12 text n is (omega arith) (omega arith))
+
     serves : (role : Role) → IsNumber (most_digits role) 12 text n → Serves role (number_part (pos n))
     serves Table is = omega (arith, ints)
     serves Reward is = IsNumber-rem text n is
@@ -197,9 +197,9 @@ branch_fits : (role : Role) (m : Process) (var : Var) (depth : ℕ) (text : List
 branch_fits role m var depth text primed kids some size head count each =
     let here : length (map (read_tree parts []) kids) ≡ slice_index (sizes m) 0 = length-map kids (read_tree parts []) ∙ count ∙ size in
     let all : (Q : Part → Type 0) → Q (choice_part 0 primed (length (map (read_tree parts []) kids))) → Each (λ kid. All Q (read_tree parts [] kid)) kids
-          → All Q (read_tree parts [] (Branch 0 primed kids)) = λ Q first rest.
-      subst (All Q) (sym (read_tree-Branch parts [] 0 primed kids)) (All-cons Q (choice_part 0 primed (length (map (read_tree parts []) kids)))
-      (flat_map (λ kid. kid) (map (read_tree parts []) kids)) first (all_parts Q kids rest)) in
+    → All Q (read_tree parts [] (Branch 0 primed kids)) = λ Q first rest.
+    subst (All Q) (sym (read_tree-Branch parts [] 0 primed kids)) (All-cons Q (choice_part 0 primed (length (map (read_tree parts []) kids)))
+    (flat_map (λ kid. kid) (map (read_tree parts []) kids)) first (all_parts Q kids rest)) in
     let deep = deepest depth 0 kids (omega arith) (Each-map (IsFit role m depth) (λ kid. read_tree nesting [] kid ≤ depth) (λ kid fit. fit.nests) kids each) in
     record {
       fits = all (Fits m) (some, here) (Each-map (IsFit role m depth) (λ kid. All (Fits m) (read_tree parts [] kid)) (λ kid fit. fit.fits) kids each);

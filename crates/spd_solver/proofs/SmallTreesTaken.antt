@@ -79,8 +79,8 @@ free_before : (slots : List (Option Tree)) (v w : ℕ) (kid : Tree) → slice_ge
     → (slice_get slots w ≡ Some None) × (w ≡ v → ⊥)
 free_before slots v w kid free after =
     let differ : w ≡ v → ⊥ = λ same.
-      let taken : slice_get (slice_set slots v (Some kid)) w ≡ Some (Some kid) = ap (slice_get (slice_set slots v (Some kid))) same ∙ set_here slots v (Some kid) None free in
-      absurd cc in
+    let taken : slice_get (slice_set slots v (Some kid)) w ≡ Some (Some kid) = ap (slice_get (slice_set slots v (Some kid))) same ∙ set_here slots v (Some kid) None free in
+    absurd cc in
     (sym (set_there slots v w (Some kid) differ) ∙ after, differ)
 
 fresh_before : (var : Var) (slots : List (Option Tree)) (v : ℕ) (kid : Tree) → slice_get slots v ≡ Some None
@@ -105,7 +105,6 @@ not_named var slots v kid text free is (branch other shape others) fresh =
 
 module _ (role : Role) (var : Var) (depth : ℕ) (tree : List Token → Option (Tree × List Token))
     (sound : (tokens : List Token) (x : Tree × List Token) → tree tokens ≡ Some x → (shape : Shape) × (tokens ≡ tokens_of_tree shape ++ x.1) × MeansTree role var depth shape x.0) where
-
   branch_takes : (tokens : List Token) (y : ℕ × Tree × List Token) → branch_at tree var tokens ≡ Some y
       → (text : List ℕ) × (shape : Shape) × (tokens ≡ opening ∷ word text ∷ tokens_of_tree shape ++ closing ∷ y.2) × (value_number var text ≡ Some y.0) × MeansTree role var depth shape y.1
   unfolding branch_at
@@ -138,20 +137,25 @@ module _ (role : Role) (var : Var) (depth : ℕ) (tree : List Token → Option (
       let f = filled_takes slots m.0 b.0.0 b.0.1 m.1 in
       let more = slice_set slots b.0.0 (Some b.0.1) in
       let rest = branches_take n more b.0.2 x (subst (λ (s : List (Option Tree)). branches_at tree var n s b.0.2 ≡ Some x) f.1 m.2) in
-      let kept : Keeps slots x.0 = record { there = λ w kid here.
-        let differ : w ≡ b.0.0 → ⊥ = λ same. let free : slice_get slots w ≡ Some None = ap (slice_get slots) same ∙ f.0 in absurd cc in
-        rest.2.keeps.there w kid (set_there slots b.0.0 w (Some b.0.1) differ ∙ here) } in
+      let kept : Keeps slots x.0 = record {
+        there = λ w kid here.
+            let differ : w ≡ b.0.0 → ⊥ = λ same. let free : slice_get slots w ≡ Some None = ap (slice_get slots) same ∙ f.0 in absurd cc in
+            rest.2.keeps.there w kid (set_there slots b.0.0 w (Some b.0.1) differ ∙ here);
+      } in
       let written : tokens ≡ tokens_of_branches (branch one.0 one.1 rest.0) ++ x.1 =
       one.2 ∙ ap (λ (ts : List Token). opening ∷ word one.0 ∷ (tokens_of_tree one.1 ++ closing ∷ ts)) rest.1
-      ∙ ap (λ (ts : List Token). opening ∷ word one.0 ∷ ts) (sym (append_assoc (tokens_of_tree one.1) (closing ∷ tokens_of_branches rest.0) x.1)) in
-      (branch one.0 one.1 rest.0, written, record {
-        count = ap suc rest.2.count;
-        fresh = (b.0.0, one.3, f.0, fresh_before var slots b.0.0 b.0.1 f.0 rest.0 rest.2.fresh);
-        holds = (b.0.0, b.0.1, one.3, rest.2.keeps.there b.0.0 b.0.1 (set_here slots b.0.0 (Some b.0.1) None f.0), one.4, rest.2.holds);
-        keeps = kept;
-        distinct = ap (λ (t : Bool). not t && are_distinct (named rest.0)) (not_named var slots b.0.0 b.0.1 one.0 f.0 one.3 rest.0 rest.2.fresh) ∙ rest.2.distinct;
-        len = rest.2.len ∙ length_set slots b.0.0 (Some b.0.1);
-      })
+      ∙ ap (λ (ts : List Token). opening ∷ word one.0 ∷ ts) (sym (append_assoc (tokens_of_tree one.1) (closing ∷ tokens_of_branches rest.0) x.1)) in (
+        branch one.0 one.1 rest.0,
+        written,
+        record {
+          count = ap suc rest.2.count;
+          fresh = (b.0.0, one.3, f.0, fresh_before var slots b.0.0 b.0.1 f.0 rest.0 rest.2.fresh);
+          holds = (b.0.0, b.0.1, one.3, rest.2.keeps.there b.0.0 b.0.1 (set_here slots b.0.0 (Some b.0.1) None f.0), one.4, rest.2.holds);
+          keeps = kept;
+          distinct = ap (λ (t : Bool). not t && are_distinct (named rest.0)) (not_named var slots b.0.0 b.0.1 one.0 f.0 one.3 rest.0 rest.2.fresh) ∙ rest.2.distinct;
+          len = rest.2.len ∙ length_set slots b.0.0 (Some b.0.1);
+        },
+      )
 
 -- ---- kids
 
@@ -213,9 +217,20 @@ module _ (role : Role) (var : Var) where
       let spelled : tokens ≡ tokens_of_tree (choice head taken.0) ++ c.0 =
       written ∙ ap (λ (ts : List Token). opening ∷ word head ∷ ts) (taken.1 ∙ ap (λ (ts : List Token). tokens_of_branches taken.0 ++ ts) (closing_takes b.0.1 c.0 c.1)
       ∙ sym (append_assoc (tokens_of_branches taken.0) (closing ∷ []) c.0)) in
-      subst (λ (y : Tree × List Token). (shape : Shape) × (tokens ≡ tokens_of_tree shape ++ y.1) × MeansTree role var (suc depth) shape y.0) same
-      (choice head taken.0, spelled, (p.0, k.0, head_takes role var head p.0 p.1, refl, len, taken.2.count, distinct_pairs (named taken.0) taken.2.distinct,
-      kids_mean role var depth b.0.0 k.0 all.1 taken.0 taken.2.holds))
+      subst (λ (y : Tree × List Token). (shape : Shape) × (tokens ≡ tokens_of_tree shape ++ y.1) × MeansTree role var (suc depth) shape y.0) same (
+        choice head taken.0,
+        spelled,
+        (
+          p.0,
+          k.0,
+          head_takes role var head p.0 p.1,
+          refl,
+          len,
+          taken.2.count,
+          distinct_pairs (named taken.0) taken.2.distinct,
+          kids_mean role var depth b.0.0 k.0 all.1 taken.0 taken.2.holds,
+        ),
+      )
 
   step_takes : (depth : ℕ) (sound : (tokens : List Token) (x : Tree × List Token) → tree_at role var depth tokens ≡ Some x
       → (shape : Shape) × (tokens ≡ tokens_of_tree shape ++ x.1) × MeansTree role var depth shape x.0)

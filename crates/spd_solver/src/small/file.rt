@@ -150,7 +150,11 @@ fn begins_action(bytes: &[u8]) -> bool
 }
 
 /// The actions that stand next, at most 64, and the bytes after them.
-fn actions<'b>(alloc: Global, var: &Var, bytes: &'b [u8]) -> Result<(Items<Action>, &'b [u8]), Unread>
+fn actions<'b>(
+    alloc: Global,
+    var: &Var,
+    bytes: &'b [u8],
+) -> Result<(Items<Action>, &'b [u8]), Unread>
     ensures { Gives (λ x. (x.0, tokens_of x.1.now)) result (actions_at var.now 64 (tokens_of bytes.now)) }
 {
     let mut actions = Items::new(alloc);
@@ -179,7 +183,11 @@ fn have_distinct_names(alloc: Global, actions: &Items<Action>) -> Result<bool, A
 
 /// At least one action, each with a name of its own, and the bytes after them.
 #[tactic(auto, unfolding(crate::specs::SmallReading::named_actions_at))]
-fn named_actions<'b>(alloc: Global, var: &Var, bytes: &'b [u8]) -> Result<(Items<Action>, &'b [u8]), Unread>
+fn named_actions<'b>(
+    alloc: Global,
+    var: &Var,
+    bytes: &'b [u8],
+) -> Result<(Items<Action>, &'b [u8]), Unread>
     ensures { Gives (λ x. (x.0, tokens_of x.1.now)) result (named_actions_at var.now (tokens_of bytes.now)) }
 {
     let (actions, after) = actions(alloc, var, bytes)?;
@@ -301,5 +309,4 @@ pub(crate) fn read_small(alloc: Global, bytes: &[u8]) -> Result<Model, Unread>
 /// A file of the small form describes one model.
 pub(crate) fn describes_one()
     ensures { (bytes : List ℕ) (m n : Process) → IsSmall bytes m → IsSmall bytes n → m ≡ n }
-{
-}
+{}

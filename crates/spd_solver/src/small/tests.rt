@@ -154,7 +154,10 @@ const REFUSED: &[(&[u8], &[u8])] = &[
     (b"(1)", b"(0000000001)"),
     (b"reward", b"rewards"),
     (b"reward", b"reward (1) reward"),
-    (b"reward (x (yes (1)) (no (0)))", b"reward (x' (yes (1)) (no (0)))"),
+    (
+        b"reward (x (yes (1)) (no (0)))",
+        b"reward (x' (yes (1)) (no (0)))",
+    ),
     (b"reward (x (yes (1))", b"reward (x (yes (0.0000000001))"),
     (b"reward (x (yes (1)) (no (0)))", b"reward [+ (1)]"),
     (b"discount 0.5", b"tolerance 0.1 discount 0.5"),

@@ -70,7 +70,9 @@ pub(crate) fn is_name(word: &[u8]) -> bool
 fn are_value_bytes(bytes: &[u8]) -> bool
     ensures { result ≡ list_all (λ d. is_ascii_alphanumeric d || (d == 95 || (d == 45 || d == 46))) bytes.now }
 {
-    bytes.iter().all(|byte| is_name_byte(*byte) || *byte == b'.')
+    bytes
+        .iter()
+        .all(|byte| is_name_byte(*byte) || *byte == b'.')
 }
 
 /// A letter, a digit or `_`, then letters, digits, `_`, `-` and `.`.

@@ -26,5 +26,5 @@ returns c =
     elim c.loop-test.branch [
       | else-loop-test w ↦ actions_end c.args.var.now c.loop.actions 64 c.loop.counter tokens total c.loop.invariant (omega arith)
       | then-loop-test+then-not-begins_action w ↦
-        actions_stop c.args.var.now c.loop.actions 64 c.loop.counter tokens total c.loop.invariant (sym w.begins_action.ensures ∙ w.if-not-begins_action.true)
+          actions_stop c.args.var.now c.loop.actions 64 c.loop.counter tokens total c.loop.invariant (sym w.begins_action.ensures ∙ w.if-not-begins_action.true)
     ]
