@@ -1,5 +1,5 @@
 -- The definitions of the small form, computed on a file with one action.
-use Rattle.std.proofs.Common.{◌≡◌, ℕ, true, false, List, [], ◌∷◌, Option, Some, None, ℤ, pos, refl}
+use Rattle.std.proofs.Common.{◌≡◌, ℕ, true, false, List, [], ◌∷◌, Some, pos, refl}
 use Rattle.std.specs.Prelude.{codes}
 use Rattle.spd_model.specs.Process.{Process}
 use Rattle.spd_model.specs.declared.tree.Tree.{Tree, Leaf, Branch}
