@@ -1,5 +1,5 @@
 -- What a place in memory holds, and the counts of its names.
-use Rattle.std.proofs.Common.{◌≡◌, ◌≢◌, ℕ, ◌+◌, ◌-◌, ◌^◌, ◌<◌, ◌≤◌, min, List, [], ◌∷◌, ◌++◌, length, Bool, true, false, true≢false, cond, Option, None, Some, IsSome, All, refl, sym, ap, ◌∙◌, subst, rules, arith, zero, suc}
+use Rattle.std.proofs.Common.{◌≡◌, ◌≢◌, ℕ, ◌+◌, ◌-◌, ◌^◌, ◌<◌, ◌≤◌, min, List, [], ◌∷◌, length, Bool, true, false, true≢false, cond, None, Some, IsSome, All, refl, sym, ap, ◌∙◌, subst, arith, zero, suc}
 use Rattle.std.specs.Prelude.{find, position, option_map, slice_set, slice_index_or, slice_get}
 use Rattle.std.specs.Option.{option_map_or}
 use Rattle.std.specs.List.{position_or_len}
@@ -11,7 +11,6 @@ use Rattle.std.proofs.lemmas.List.Folds.{find-set, find_past, find_at}
 use Rattle.spd_edge.specs.declared.mem_place.Put.{Put}
 use Rattle.spd_edge.specs.MemoryPlace.{Inputs, Counts, IsPut, put_under, input_under, faults_of}
 use Rattle.spd_edge.specs.Names.{NoneFalls}
-use Rattle.spd_edge.specs.Memory.{Input}
 use Rattle.spd_edge.proofs.NamesLemmas.{bytes_eq-other}
 
 -- what is found passes the test
@@ -50,19 +49,18 @@ pub input_under-renamed : (puts : List Put) (name : List ℕ) (at : ℕ) (put : 
 input_under-renamed puts name at put found there =
     let first = position_is (λ each. bytes_eq each.input.name name) puts at found in
     let was : put_under puts name ≡ Some put =
-      find_at (λ each. bytes_eq each.input.name name) puts
-      ∙ ap (slice_get puts) (sym first.0)
-      ∙ slice_get-get_or puts at put first.1
-      ∙ ap (λ each. Some each) (sym there) in
+    find_at (λ each. bytes_eq each.input.name name) puts
+    ∙ ap (slice_get puts) (sym first.0)
+    ∙ slice_get-get_or puts at put first.1
+    ∙ ap (λ each. Some each) (sym there) in
     let named : put.input.name ≡ name = (bytes_eq-Decides put.input.name name).0 (find_passes (λ each. bytes_eq each.input.name name) puts put was) in
     ap (λ n. Some (record put.input { name = n })) (sym named) ∙ ap (λ each. option_map (λ p. p.input) each) (sym was)
 
 module _ (before : Inputs) (name : List ℕ) (more at : ℕ) (put counted : Put)
-  (found : position (λ each. bytes_eq each.input.name name) before.puts ≡ Some at)
-  (there : put ≡ slice_index_or before.puts at put)
-  (same_input : counted.input ≡ put.input)
-  (more_faults : counted.faults ≡ min (put.faults + more) (2 ^ 64 - 1)) where
-
+    (found : position (λ each. bytes_eq each.input.name name) before.puts ≡ Some at)
+    (there : put ≡ slice_index_or before.puts at put)
+    (same_input : counted.input ≡ put.input)
+    (more_faults : counted.faults ≡ min (put.faults + more) (2 ^ 64 - 1)) where
   under : List ℕ → Put → Bool
   under other each = bytes_eq each.input.name other
 
@@ -92,38 +90,37 @@ module _ (before : Inputs) (name : List ℕ) (more at : ℕ) (put counted : Put)
   pub counts_own : Counts before now name more
   counts_own = record {
     added = ap (λ each. option_map_or (λ p. p.faults) each before.faults) is ∙ more_faults
-      ∙ ap (λ each. min (option_map_or (λ p. p.faults) each before.faults + more) (2 ^ 64 - 1)) (sym was);
+        ∙ ap (λ each. min (option_map_or (λ p. p.faults) each before.faults + more) (2 ^ 64 - 1)) (sym was);
     others = λ other differ _.
-      let fails : bytes_eq put.input.name other ≡ false = bytes_eq-other put.input.name other (λ same. differ (sym same ∙ named)) in
-      ap
+        let fails : bytes_eq put.input.name other ≡ false = bytes_eq-other put.input.name other (λ same. differ (sym same ∙ named)) in
+        ap
         (λ each. option_map_or (λ p. p.faults) each before.faults)
         (find_past (λ each. bytes_eq each.input.name other) before.puts at counted put
-          (ap (λ each. bytes_eq each.input.name other) (sym there) ∙ fails)
-          (ap (λ input. bytes_eq input.name other) same_input ∙ fails));
+        (ap (λ each. bytes_eq each.input.name other) (sym there) ∙ fails)
+        (ap (λ input. bytes_eq input.name other) same_input ∙ fails));
     stray = λ none. cc (was, none);
     inputs = λ i other. find-set_alike (λ each. bytes_eq each.input.name other) (λ each. each.input) before.puts at put counted
         (ap (λ input. bytes_eq input.name other) same_input ∙ ap (λ each. bytes_eq each.input.name other) there)
         (same_input ∙ ap (λ each. each.input) there) i;
     asked = refl;
-    opened = refl
+    opened = refl;
   }
 
 module _ (before : Inputs) (name : List ℕ) (more shared : ℕ)
-  (none : position (λ each. bytes_eq each.input.name name) before.puts ≡ None)
-  (more_faults : shared ≡ min (before.faults + more) (2 ^ 64 - 1)) where
-
+    (none : position (λ each. bytes_eq each.input.name name) before.puts ≡ None)
+    (more_faults : shared ≡ min (before.faults + more) (2 ^ 64 - 1)) where
   -- the faults of a name that wasn't put are added to the count of all such names
   pub counts_shared : Counts before (record before { faults = shared }) name more
   counts_shared =
       let nothing : put_under before.puts name ≡ None = find_none (λ each. bytes_eq each.input.name name) before.puts none in
       record {
         added = ap (λ each. option_map_or (λ p. p.faults) each shared) nothing ∙ more_faults
-          ∙ ap (λ each. min (option_map_or (λ p. p.faults) each before.faults + more) (2 ^ 64 - 1)) (sym nothing);
+            ∙ ap (λ each. min (option_map_or (λ p. p.faults) each before.faults + more) (2 ^ 64 - 1)) (sym nothing);
         others = λ other differ some. let never : false ≡ true = subst IsSome nothing some in cc never;
         stray = λ _. refl;
         inputs = refl;
         asked = refl;
-        opened = refl
+        opened = refl;
       }
 
 -- what holds of each element holds of the one that is found
@@ -144,24 +141,24 @@ faults_of-bound place all shared name =
 pub Counts-never_falls : (before after : Inputs) (name : List ℕ) (more : ℕ) → All IsPut before.puts → before.faults < 2 ^ 64 → Counts before after name more → NoneFalls (faults_of before) (faults_of after)
 Counts-never_falls before after name more all shared counts other =
     let here : faults_of before name ≤ faults_of after name =
-      rw counts.added (let bound = faults_of-bound before all shared name in omega (arith, bound)) in
+    rw counts.added (let bound = faults_of-bound before all shared name in omega (arith, bound)) in
     let there : name ≢ other → faults_of before other ≤ faults_of after other = λ differ.
-      elim (put_under before.puts name) as (λ o. put_under before.puts name ≡ o → faults_of before other ≤ faults_of after other) [
-        | Some put ↦ λ found.
+    elim (put_under before.puts name) as (λ o. put_under before.puts name ≡ o → faults_of before other ≤ faults_of after other) [
+      | Some put ↦ λ found.
           let same = counts.others other (λ is. differ (sym is)) (subst IsSome (sym found) refl) in
           omega (arith, same)
-        | None ↦ λ none.
+      | None ↦ λ none.
           let e1 : faults_of before name ≡ before.faults = ap (λ o. option_map_or (λ p. p.faults) o before.faults) none in
           let e2 : faults_of after name ≡ after.faults =
-            ap (λ puts. option_map_or (λ p. p.faults) (put_under puts name) after.faults) (counts.stray none)
-            ∙ ap (λ o. option_map_or (λ p. p.faults) o after.faults) none in
+          ap (λ puts. option_map_or (λ p. p.faults) (put_under puts name) after.faults) (counts.stray none)
+          ∙ ap (λ o. option_map_or (λ p. p.faults) o after.faults) none in
           let shared_grow : before.faults ≤ after.faults = omega (arith, e1, e2, here) in
           rw (ap (λ puts. option_map_or (λ p. p.faults) (put_under puts other) after.faults) (counts.stray none))
-            (elim (put_under before.puts other) as (λ o. option_map_or (λ p. p.faults) o before.faults ≤ option_map_or (λ p. p.faults) o after.faults) [
-              | Some put ↦ omega arith
-              | None ↦ shared_grow
-            ])
-      ] refl in
+          (elim (put_under before.puts other) as (λ o. option_map_or (λ p. p.faults) o before.faults ≤ option_map_or (λ p. p.faults) o after.faults) [
+            | Some put ↦ omega arith
+            | None ↦ shared_grow
+          ])
+    ] refl in
     elim (bytes_eq name other) as (λ b. bytes_eq name other ≡ b → faults_of before other ≤ faults_of after other) [
       | true ↦ λ same. subst (λ q. faults_of before q ≤ faults_of after q) ((bytes_eq-Decides name other).0 same) here
       | false ↦ λ fails. there (λ same. true≢false (sym ((bytes_eq-Decides name other).1 same) ∙ fails))

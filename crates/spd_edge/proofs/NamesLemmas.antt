@@ -1,8 +1,6 @@
 -- What names are among those that a place keeps.
-use Rattle.std.proofs.Common.{◌≡◌, ◌≢◌, ℕ, List, [], ◌∷◌, ◌++◌, Bool, true, false, not, ◌||◌, ◌&&◌, refl, sym, ap, ◌∙◌, rules, arith}
-use Rattle.std.specs.List.{list_any}
+use Rattle.std.proofs.Common.{◌≡◌, ◌≢◌, ℕ, List, [], ◌∷◌, ◌++◌, Bool, true, false, not, ◌||◌, refl, sym, ap, ◌∙◌}
 use Rattle.std.specs.Str.{bytes_eq}
-use Rattle.std.specs.Cmp.Lexicographic.{same_text}
 use Rattle.std.proofs.lemmas.Slice.Eq.{bytes_eq-Decides}
 use Rattle.std.proofs.lemmas.List.Folds.{list_any-append}
 use Rattle.std.proofs.lemmas.Map.Views.{any-filter_same}
@@ -51,10 +49,10 @@ is_among-removed names name =
 pub is_among-remove : (names : List (List ℕ)) (name : List ℕ) → SameButFor (is_among names) (is_among (without names name)) name
 is_among-remove names name other differ =
     any-filter_same
-      (λ each. bytes_eq each other)
-      (λ each. not (bytes_eq each name))
-      true
-      (λ each same. ap not (bytes_eq-other each name (λ is. differ (sym ((bytes_eq-Decides each other).0 same) ∙ is))))
-      names
+    (λ each. bytes_eq each other)
+    (λ each. not (bytes_eq each name))
+    true
+    (λ each same. ap not (bytes_eq-other each name (λ is. differ (sym ((bytes_eq-Decides each other).0 same) ∙ is))))
+    names
 
 pub ruleset names = (is_among-pushed, is_among-push, is_among-removed, is_among-remove)

@@ -1,5 +1,5 @@
 -- Sources and sinks in memory. Their calls are numbered from 0, and they say which numbers fail.
-use Rattle.std.specs.Prelude.{◌≡◌, ℕ, ◌+◌, ◌-◌, ◌^◌, List, [], ◌++◌, length, take, drop, min, Option, None, Some, Result, Ok, Err, Bool, true, false, ◌==◌, ◌&&◌, ◌||◌, nat_lt, nat_le, if◌then◌else◌}
+use Rattle.std.specs.Prelude.{ℕ, ◌+◌, ◌-◌, ◌^◌, List, ◌++◌, length, take, drop, min, Option, None, Some, Bool, false, ◌==◌, ◌&&◌, ◌||◌, nat_lt, nat_le, if◌then◌else◌}
 use Rattle.std.specs.List.{list_any}
 
 -- whether the call of this number is one of those that fail; past the last number, 2^64 - 1, none is

@@ -1,5 +1,5 @@
 -- Bytes that an object of the outside tells: what a source has left, what a sink took. `None`: it doesn't tell.
-use Rattle.std.specs.Prelude.{◌≡◌, ℕ, List, [], ◌++◌, length, Option, None, Some, option_map, IfSome}
+use Rattle.std.specs.Prelude.{◌≡◌, ℕ, List, [], ◌++◌, length, Option, option_map, IfSome}
 
 -- a source gave these bytes: what it had left is these bytes and then what it has left now
 abbrev pub Gave : Option (List ℕ) → List ℕ → Option (List ℕ) → Type 0

@@ -1,6 +1,6 @@
 //! Sources and sinks in memory, for tests. Their calls are numbered from 0, and which numbers fail
 //! is said when they are made.
-ghost use Rattle.std.specs.Prelude.{◌≡◌, ℕ, ◌+◌, ◌-◌, ◌^◌, ◌<◌, ◌≤◌, [], ◌++◌, length, drop, vec_len, vec_capacity, ◌↔◌, Option, Some, Result, Ok, Err, IsTrue, IsErr, IfOk, OnOk, OnErr};
+ghost use Rattle.std.specs.Prelude.{◌≡◌, ◌+◌, ◌-◌, ◌^◌, ◌<◌, ◌≤◌, [], ◌++◌, length, drop, vec_len, vec_capacity, ◌↔◌, Some, IsTrue, IsErr, IfOk, OnOk, OnErr};
 ghost use Rattle.spd_edge.specs.Memory.{Input, Output, is_failing, number_after, bytes_given, after_giving, after_no_read, is_refusing, bytes_taken, after_taking, after_no_write};
 
 use crate::outside::{Failed, Memory, Opened, Sink, Source};
@@ -27,7 +27,8 @@ fn next_number(number: Option<u64>) -> Option<u64>
     }
 }
 
-/// A source in memory.
+/// A source in memory. A call that doesn't fail gives as many bytes as the buffer, `most` and what
+/// is left allow.
 #[derive(Drop)]
 pub struct MemIn {
     name: Vec<u8>,
@@ -138,7 +139,8 @@ impl Source for MemIn {
     }
 }
 
-/// A sink in memory.
+/// A sink in memory. A call that doesn't fail takes as many bytes as the piece, `most` and the room
+/// allow. A piece that isn't empty fails where no room is left.
 #[derive(Drop)]
 pub struct MemOut {
     name: Vec<u8>,

@@ -8,6 +8,8 @@ mod mem_place;
 mod names;
 mod outside;
 mod real;
+#[cfg(test)]
+mod tests;
 mod whole;
 
 pub use in_memory::{MemIn, MemOut};

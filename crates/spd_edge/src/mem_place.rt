@@ -1,7 +1,6 @@
 //! A place in memory, for tests.
-ghost use Rattle.std.specs.Prelude.{◌≡◌, ◌≢◌, ℕ, ◌+◌, ◌-◌, ◌^◌, ◌<◌, ◌≤◌, ◌⊎◌, [], ◌∷◌, List, ◌++◌, length, min, position, slice_get, option_and_then, Option, Some, None, true, false, IsSome, IfOk, IfSome, OnOk, OnErr, All};
+ghost use Rattle.std.specs.Prelude.{◌≡◌, ◌≢◌, ℕ, ◌+◌, ◌-◌, ◌^◌, ◌<◌, ◌⊎◌, [], ◌∷◌, List, ◌++◌, min, position, Some, None, true, false, IsSome, IfOk, OnOk, OnErr, All};
 ghost use Rattle.std.specs.Str.{bytes_eq};
-ghost use Rattle.spd_edge.specs.Counts.{Rose};
 ghost use Rattle.spd_edge.specs.Names.{NoneFalls, SameButFor, is_among, without};
 ghost use Rattle.spd_edge.specs.MemoryPlace.{Counts, Inputs, put_under, input_under, bytes_under, faults_of, IsPut};
 
@@ -26,7 +25,8 @@ fn find_put(puts: &[Put], name: &[u8]) -> Option<usize>
     puts.iter().position(|put| put.input.name() == name)
 }
 
-/// A place in memory: an input is put there under a name, and is opened by it.
+/// A place in memory: an input is put there under a name, and is opened by it. Opens of other names
+/// fail, and all these names share one count of faults.
 #[derive(Drop)]
 pub struct MemPlace {
     puts: Vec<Put>,

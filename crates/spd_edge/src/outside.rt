@@ -18,7 +18,9 @@ pub struct Failed;
 /// Why an object wasn't opened.
 #[derive(Clone, Copy, Debug, PartialEq, Eq)]
 pub enum Open {
+    /// The outside didn't open it, and a fault of its name was counted.
     Failed,
+    /// Memory was wanted and not found.
     Memory,
 }
 
@@ -37,6 +39,7 @@ pub enum ReadAll {
     Fault,
     /// There are more bytes than the limit allows.
     TooLong,
+    /// Memory was wanted and not found.
     Memory,
 }
 
@@ -73,7 +76,9 @@ pub trait Source: Opened {
     /// Reads some bytes into the front of `buf` and says how many. 0 for a buffer that isn't
     /// empty is the end of the input.
     ///
-    /// Fails where the outside fails, which counts a fault and takes nothing.
+    /// # Errors
+    ///
+    /// `Failed` where the outside fails, which counts a fault and takes nothing.
     fn read(&mut self, buf: &mut [u8]) -> Result<usize, Failed>
         ensures within { IfOk result (λ n. n ≤ length buf.old) }
         ensures gave { IfOk result (λ n. Gave (left self.old) (take n buf.new) (left self.new)) }
@@ -97,7 +102,9 @@ pub trait Sink: Opened {
     /// Takes some bytes of the front of `piece` and says how many: at least one, unless the piece
     /// is empty.
     ///
-    /// Fails where the outside fails, which counts a fault and takes nothing.
+    /// # Errors
+    ///
+    /// `Failed` where the outside fails, which counts a fault and adds nothing.
     fn write(&mut self, piece: &[u8]) -> Result<usize, Failed>
         ensures within { IfOk result (λ n. n ≤ length piece.now) }
         ensures progress { IfOk result (λ n. 0 < length piece.now → 0 < n) }
@@ -129,7 +136,11 @@ pub trait Place {
     /// The bytes that it holds under each name, where it tells them.
     ghost holds_in: { Self → List ℕ → Option (List ℕ) };
 
-    /// Opens the input of a name. `Failed` counts a fault of that name.
+    /// Opens the input of a name that it wasn't asked for before.
+    ///
+    /// # Errors
+    ///
+    /// `Failed` where the outside doesn't open it, which counts a fault of that name, and `Memory`.
     fn open_in(&mut self, name: &[u8]) -> Result<Self::In, Open>
         requires { asked_in self.old name.now ≡ false }
 

@@ -1,21 +1,24 @@
 //! The system's files and standard streams. Nothing is told of their bytes: this is the edge that is
 //! trusted.
-ghost use Rattle.std.specs.Prelude.{◌≡◌, ◌^◌, ◌<◌, ℕ, List, [], None, false};
+ghost use Rattle.std.specs.Prelude.{◌≡◌, ◌+◌, ◌-◌, ◌^◌, ◌<◌, ◌≤◌, ℕ, List, [], length, take, min, None, false, IfOk, OnOk, OnErr};
+ghost use Rattle.std.specs.Io.KnownBytes.{Appends, Consumes, IsAtEnd, Keeps};
 ghost use Rattle.spd_edge.specs.Names.{is_among};
+ghost use Rattle.spd_edge.specs.Real.{Openings, stream_remaining};
 
 use crate::names::Names;
 use crate::outside::{Failed, Open, Opened, Place, Sink, Source};
 use std::fs::File;
 use std::io::{Read, Stderr, Stdin, Stdout, Write};
+use std::marker::Model;
 use std::rt::Files;
 use std::{fs, io, str};
 
 /// A reader of the system as a source.
 #[derive(Drop)]
 pub struct ReaderIn<R> {
-    name: Vec<u8>,
-    reader: R,
-    faults: u64,
+    pub name: Vec<u8>,
+    pub reader: R,
+    pub faults: u64,
     ghost in_range: { faults < 2 ^ 64 },
 }
 
@@ -28,8 +31,9 @@ pub type StdIn = ReaderIn<Stdin>;
 impl<R: Read> ReaderIn<R> {
     /// A source that reads from a reader and shows a name. Its count of faults begins at 0.
     pub fn new(name: Vec<u8>, reader: R) -> Self
-        ensures named { ⟦<ReaderIn<R> as Opened>⟧.name result ≡ name.items }
-        ensures no_fault_yet { ⟦<ReaderIn<R> as Source>⟧.faults result ≡ 0 }
+        ensures named { result.name.items ≡ name.items }
+        ensures reader { result.reader ≡ reader }
+        ensures no_fault_yet { result.faults ≡ 0 }
     {
         ReaderIn {
             name,
@@ -48,7 +52,20 @@ impl<R: Read> Source for ReaderIn<R> {
 
     ghost left = { λ _. None };
 
-    fn read(&mut self, buf: &mut [u8]) -> Result<usize, Failed> {
+    fn read(&mut self, buf: &mut [u8]) -> Result<usize, Failed>
+        ensures within { IfOk result (λ n. n ≤ length buf.old) }
+
+        // Where the reader's bytes are known, they are passed on.
+        ensures given { IfOk result (λ n. Consumes (R.remaining self.old.reader) (R.remaining self.new.reader) (take n buf.new)) }
+        ensures end { IfOk result (λ n. n ≡ 0 → 0 < length buf.old → IsAtEnd (R.remaining self.new.reader)) }
+        ensures failed_gave_nothing { OnErr result (Keeps (R.remaining self.old.reader) (R.remaining self.new.reader)) }
+
+        ensures ok { OnOk result (self.new.faults ≡ self.old.faults) }
+        ensures failed { OnErr result (self.new.faults ≡ min (self.old.faults + 1) (2 ^ 64 - 1)) }
+        ensures never_falls { self.old.faults ≤ self.new.faults }
+        ensures count { self.new.faults < 2 ^ 64 }
+        ensures named { self.new.name ≡ self.old.name }
+    {
         match self.reader.read(buf) {
             Ok(n) => Ok(n),
             Err(_) => {
@@ -62,8 +79,8 @@ impl<R: Read> Source for ReaderIn<R> {
 /// A writer of the system as a sink.
 #[derive(Drop)]
 pub struct WriterOut<W> {
-    writer: W,
-    faults: u64,
+    pub writer: W,
+    pub faults: u64,
     ghost in_range: { faults < 2 ^ 64 },
 }
 
@@ -76,8 +93,8 @@ pub type StdErr = WriterOut<Stderr>;
 impl<W: Write> WriterOut<W> {
     /// A sink that writes to a writer. Its name is empty, and its count of faults begins at 0.
     pub fn new(writer: W) -> Self
-        ensures named { ⟦<WriterOut<W> as Opened>⟧.name result ≡ [] }
-        ensures no_fault_yet { ⟦<WriterOut<W> as Sink>⟧.faults result ≡ 0 }
+        ensures writer { result.writer ≡ writer }
+        ensures no_fault_yet { result.faults ≡ 0 }
     {
         WriterOut { writer, faults: 0 }
     }
@@ -92,7 +109,19 @@ impl<W: Write> Sink for WriterOut<W> {
 
     ghost taken = { λ _. None };
 
-    fn write(&mut self, piece: &[u8]) -> Result<usize, Failed> {
+    fn write(&mut self, piece: &[u8]) -> Result<usize, Failed>
+        ensures within { IfOk result (λ n. n ≤ length piece.now) }
+        ensures progress { IfOk result (λ n. 0 < length piece.now → 0 < n) }
+
+        // Where the writer's bytes are known, it takes these.
+        ensures given { IfOk result (λ n. Appends (W.contents self.old.writer) (W.contents self.new.writer) (take n piece.now)) }
+        ensures failed_gave_nothing { OnErr result (Keeps (W.contents self.old.writer) (W.contents self.new.writer)) }
+
+        ensures ok { OnOk result (self.new.faults ≡ self.old.faults) }
+        ensures failed { OnErr result (self.new.faults ≡ min (self.old.faults + 1) (2 ^ 64 - 1)) }
+        ensures never_falls { self.old.faults ≤ self.new.faults }
+        ensures count { self.new.faults < 2 ^ 64 }
+    {
         match self.writer.write(piece) {
             Ok(n) if n > 0 || piece.is_empty() => Ok(n),
             _ => {
@@ -111,6 +140,8 @@ pub enum Stream<F, S> {
 }
 
 impl<F: Read, S: Read> Read for Stream<F, S> {
+    ghost remaining = { stream_remaining F.remaining S.remaining };
+
     fn read(&mut self, buf: &mut [u8]) -> io::Result<usize> {
         match self {
             Stream::File(file) => file.read(buf),
@@ -138,15 +169,20 @@ pub struct RealPlace<R> {
     asked: Names,
     opened: Names,
     faults: u64,
-    ghost in_range: { faults < 2 ^ 64 },
+}
+
+impl<R> Model for RealPlace<R> {
+    ghost Value = { Openings };
+
+    ghost view = { λ place. record { asked = place.asked; opened = place.opened; faults = place.faults } };
+
+    ghost invariant = { λ place. place.faults < 2 ^ 64 };
 }
 
 impl<R: Files + Input + AllocGlobal> RealPlace<R> {
     /// A place that was asked for no name. Its counts of faults begin at 0.
     pub fn new(rt: R) -> Self
-        ensures not_asked { (name : List ℕ) → ⟦<RealPlace<R> as Place>⟧.asked_in result name ≡ false }
-        ensures not_open { (name : List ℕ) → ⟦<RealPlace<R> as Place>⟧.is_open_in result name ≡ false }
-        ensures no_fault_yet { (name : List ℕ) → ⟦<RealPlace<R> as Place>⟧.faults_in result name ≡ 0 }
+        ensures { result ≡ record { asked = []; opened = []; faults = 0 } }
     {
         RealPlace {
             asked: Names::new(rt.alloc()),

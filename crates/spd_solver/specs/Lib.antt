@@ -8,3 +8,6 @@ pub mod Small
 pub mod SmallReading
 pub mod SmallContents
 pub mod Run
+pub mod TextParts
+pub mod TextNodes
+pub mod Solved

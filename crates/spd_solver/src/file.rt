@@ -1,5 +1,5 @@
 //! Reading a whole file of a place.
-ghost use Rattle.std.specs.Prelude.{◌≡◌, ◌≢◌, ℕ, ◌<◌, ◌≤◌, List, length, true, false, vec_len, IfOk, OnOk, IfErr, IfSome};
+ghost use Rattle.std.specs.Prelude.{◌≡◌, ◌≢◌, ℕ, ◌<◌, ◌≤◌, List, length, true, false, IfOk, OnOk, IfErr, IfSome};
 ghost use Rattle.spd_edge.specs.Counts.{Rose};
 ghost use Rattle.spd_edge.specs.Names.{SameButFor, NoneFalls};
 
@@ -31,7 +31,7 @@ pub(crate) fn read_file<P: Place>(
     requires { P.asked_in place.old name.now ≡ false }
 
     ensures held { IfOk result (λ bytes. IfSome (P.holds_in place.old name.now) (λ held. bytes.items ≡ held)) }
-    ensures short { IfOk result (λ bytes. vec_len bytes ≤ FILE_LIMIT) }
+    ensures short { IfOk result (λ bytes. length bytes.items ≤ FILE_LIMIT) }
     ensures too_long { result ≡ Err Unreadable.TooLong → IfSome (P.holds_in place.old name.now) (λ held. FILE_LIMIT < length held) }
     ensures open { result ≡ Err Unreadable.Open → Rose (P.faults_in place.old name.now) (P.faults_in place.new name.now) }
     ensures read { result ≡ Err Unreadable.Read → Rose (P.faults_in place.old name.now) (P.faults_in place.new name.now) }

@@ -6,6 +6,7 @@ mod trees;
 mod unread;
 mod words;
 
+pub use file::law_one_model;
 pub(crate) use file::read_small;
 pub(crate) use unread::Unread;
 

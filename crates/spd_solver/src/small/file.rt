@@ -312,6 +312,6 @@ pub(crate) fn read_small(alloc: Global, bytes: &[u8]) -> Result<Model, Unread>
 }
 
 /// A file of the small form describes one model.
-pub(crate) fn describes_one()
+pub fn law_one_model()
     ensures { (bytes : List ℕ) (m n : Process) → IsSmall bytes m → IsSmall bytes n → m ≡ n }
 {}

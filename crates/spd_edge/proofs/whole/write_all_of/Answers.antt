@@ -1,4 +1,4 @@
-use Rattle.std.proofs.Common.{rules, take, drop, subst, sym, arith, List, ℕ, Option, length}
+use Rattle.std.proofs.Common.{subst, sym, arith, List, ℕ}
 use Rattle.std.proofs.lemmas.Grind.{common_steps}
 use Rattle.std.proofs.Math.Seq.{take-add}
 use Rattle.spd_edge.specs.Told.{Took}

@@ -1,0 +1,71 @@
+-- How a map of leaves goes on from an entry, and what it makes of a whole one.
+use Rattle.std.proofs.Common.{◌≡◌, ℕ, Bool, true, List, refl, sym, ◌∙◌, ap, subst, arith}
+use Rattle.spd_cons_core.specs.declared.key.Entry.{Entry}
+use Rattle.spd_nodes.specs.declared.leaf.Leaf.{Leaf}
+use Rattle.spd_nodes.specs.declared.leaf.Leaf.TheVariants.{Act}
+use Rattle.spd_nodes.specs.Levels.{slots}
+use Rattle.spd_nodes.specs.Trees.{Ends, Tests, IsFrom, IsReduced, value_at}
+use Rattle.spd_nodes.specs.States.{point, plain_part, primed_part, function_of, Agree}
+use Rattle.spd_nodes.specs.Shown.{Shown, IsSound, IsWhole, meaning}
+use Rattle.spd_nodes.proofs.RankLaws.{rank-view}
+use Rattle.spd_nodes.proofs.TreeLaws.{tree_of-value_at, tree_of-agree}
+use Rattle.spd_nodes.proofs.StateLaws.{positive-slots, IsPointOf, point-parts}
+use Rattle.spd_apply.specs.declared.rule.Below.TheVariants as B
+use Rattle.spd_apply.specs.Applied.{mapped, map_mark, EachFits}
+use Rattle.spd_apply.specs.Outcome.{map_each, FitsEverywhere}
+use Rattle.spd_apply.specs.Rules.{PlansTest}
+use Rattle.spd_apply.proofs.HalfLaws.{eq-refl}
+use Rattle.spd_apply.proofs.AppliedLaws.{applied-whole, applied-tree_of, value_at-mapped, Meets, meets-right, descends}
+use Rattle.spd_apply.proofs.PlanLaws.{join-ends, fit-leaves}
+
+-- the operation that a map is, beside a leaf
+second : (Leaf → Leaf) → Leaf → Leaf → Leaf
+second map a b = map b
+
+mark-true : (fits : Leaf → Bool) (x : Leaf) → EachFits fits (Ends x) → fits x ≡ true
+mark-true fits x h = fit-leaves (λ a b. fits b) x x h.all
+
+module _ (map : Leaf → Leaf) (fits : Leaf → Bool) (s : Shown) (o : IsSound s) (f : Entry) (kf : s.knows f ≡ true) where
+  abbrev ds : List ℕ
+  ds = slots s.sizes
+
+  pub map-leaf : (x : Leaf) → EachFits fits (s.tree f) → s.tree f ≡ Ends x → fits x ≡ true
+  map-leaf x h e = mark-true fits x (rw e at h)
+
+  pub map-plans : (g y n : Entry) (l : ℕ) → EachFits fits (s.tree f) → s.tree f ≡ Tests l (s.tree y) (s.tree n) → s.knows y ≡ true → s.knows n ≡ true
+      → PlansTest (λ t u. mapped map t) (λ t u. EachFits fits t) s f g l (B.Pair y y) (B.Pair n n)
+  map-plans g y n l h e ky kn =
+      let r : IsReduced ds 0 (Tests l (s.tree y) (s.tree n)) = subst (λ t. IsReduced ds 0 t) e (o.reduced f kf) in
+      let m : Meets ds l (Ends (Act 0)) (Tests l (s.tree y) (s.tree n)) = meets-right ds l (Ends (Act 0)) (s.tree y) (s.tree n) tt r tt in
+      let can = (descends ds l (Ends (Act 0)) (Tests l (s.tree y) (s.tree n)) tt r m).can_test (λ a b. map b) in
+      let both : (mapped (map_mark fits) (s.tree y) ≡ Ends (Act 1)) × (mapped (map_mark fits) (s.tree n) ≡ Ends (Act 1)) = join-ends l _ _ (Act 1) (ap (mapped (map_mark fits)) (sym e) ∙ h.all) in
+      let smaller = rank-view s o f y n l kf e in
+      record {
+        level_in = m.level;
+        is = rw e refl;
+        can_test = rw (eq-refl l) at can;
+        yes_goes = record { left = ky; right = ky; trees = record { all = both.0 } };
+        no_goes = record { left = kn; right = kn; trees = record { all = both.1 } };
+        yes_smaller = omega (arith, smaller.0);
+        no_smaller = omega (arith, smaller.1);
+      }
+
+  module _ (wf : IsWhole s f) where
+    pub map-value : Agree s.sizes (function_of s.sizes (mapped map (s.tree f))) (map_each map (meaning s f))
+    map-value = record { at = λ x y i j. value_at-mapped ds 0 map (s.tree f) (point x y) }
+
+    pub map-reduced : IsReduced ds 0 (mapped map (s.tree f))
+    map-reduced = (applied-whole ds (λ a b. map b) (Ends (Act 0)) (s.tree f) tt (o.reduced f kf) 0 tt wf).0
+
+    pub map-whole : IsFrom ds 0 0 (mapped map (s.tree f))
+    map-whole = (applied-whole ds (λ a b. map b) (Ends (Act 0)) (s.tree f) tt (o.reduced f kf) 0 tt wf).1
+
+    pub map-fits : FitsEverywhere fits s f → EachFits fits (s.tree f)
+    map-fits h = record {
+      all = applied-tree_of ds (λ a b. map_mark fits b) (Ends (Act 0)) (s.tree f) tt (o.reduced f kf) tt wf
+          ∙ tree_of-agree ds 0 _ (λ p. Act 1) (positive-slots s.sizes o.layout.values)
+          (λ p i. let q : IsPointOf s.sizes p = point-parts s.sizes p i in
+          let e : fits (value_at ds 0 (s.tree f) p) ≡ true = subst (λ v. fits (value_at ds 0 (s.tree f) v) ≡ true) q.point_is (h.at (plain_part p) (primed_part p) q.plain q.primed) in
+          rw e refl)
+          ∙ tree_of-value_at ds 0 (Ends (Act 1)) tt tt;
+    }

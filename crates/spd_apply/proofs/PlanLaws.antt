@@ -1,0 +1,136 @@
+-- How an operation on leaves goes on from two entries.
+use Rattle.std.proofs.Common.{◌≡◌, ℕ, ◌-◌, ◌<◌, ◌≤◌, ◌⊎◌, inl, inr, ◌==◌, Bool, true, false, cond, List, refl, sym, ◌∙◌, ap, arith}
+use Rattle.std.specs.Prelude.{nat_lt}
+use Rattle.spd_cons_core.specs.declared.key.Entry.{Entry}
+use Rattle.spd_nodes.specs.declared.leaf.Leaf.{Leaf}
+use Rattle.spd_nodes.specs.declared.leaf.Leaf.TheVariants.{Act}
+use Rattle.spd_nodes.specs.declared.layout.Level.{Level}
+use Rattle.spd_nodes.specs.declared.forest.View.{View}
+use Rattle.spd_nodes.specs.declared.forest.View.TheVariants as V
+use Rattle.spd_nodes.specs.Levels.{levels_of, slots, after}
+use Rattle.spd_nodes.specs.Trees.{Tree, Ends, Tests, tree_eq, tree_rank, join, IsAt}
+use Rattle.spd_nodes.specs.Shown.{Shown, IsSound, IsViewOf}
+use Rattle.spd_nodes.proofs.RankLaws.{rank-from, rank-at}
+use Rattle.spd_nodes.proofs.TreeLaws.{tree_eq-true, after_above}
+use Rattle.spd_apply.specs.declared.pointwise.Top.TheVariants as T
+use Rattle.spd_apply.specs.declared.rule.Below.TheVariants as B
+use Rattle.spd_apply.specs.Halves.{yes_at, no_at, pair_rank}
+use Rattle.spd_apply.specs.Applied.{applied, fit_mark, AllFit, MayApply}
+use Rattle.spd_apply.specs.Rules.{PlansTest}
+use Rattle.spd_apply.specs.Views.{top_of_views, next_yes, next_no}
+use Rattle.spd_apply.proofs.HalfLaws.{Splits}
+use Rattle.spd_apply.proofs.AppliedLaws.{top_of, BothEnd, Meets, meets-cases, Descends, descends}
+
+-- an entry that is known, with its tree
+pub record Known (s : Shown) (r : Entry) (t : Tree) : Type 0 where
+  pub knows : s.knows r ≡ true
+  pub tree : s.tree r ≡ t
+
+pub next_yes-is : (s : Shown) (v : View) (r : Entry) (l : Level) → s.knows r ≡ true → IsViewOf s r v → Known s (next_yes v r l) (yes_at l.0 (s.tree r))
+next_yes-is s (V.Leaf a) r l k h = record { knows = k; tree = rw h refl }
+next_yes-is s (V.Test j y n) r l k h = go (j.0 == l.0) refl
+  where
+    go : (t : Bool) → (j.0 == l.0) ≡ t → Known s (cond t y r) (yes_at l.0 (s.tree r))
+    go true e = record { knows = h.1; tree = rw (h.0, e) refl }
+    go false e = record { knows = k; tree = rw (h.0, e) refl }
+
+pub next_no-is : (s : Shown) (v : View) (r : Entry) (l : Level) → s.knows r ≡ true → IsViewOf s r v → Known s (next_no v r l) (no_at l.0 (s.tree r))
+next_no-is s (V.Leaf a) r l k h = record { knows = k; tree = rw h refl }
+next_no-is s (V.Test j y n) r l k h = go (j.0 == l.0) refl
+  where
+    go : (t : Bool) → (j.0 == l.0) ≡ t → Known s (cond t n r) (no_at l.0 (s.tree r))
+    go true e = record { knows = h.2; tree = rw (h.0, e) refl }
+    go false e = record { knows = k; tree = rw (h.0, e) refl }
+
+-- the leaves of two views are the trees
+pub ends-of : (s : Shown) (a b : View) (f g : Entry) (x y : Leaf) → IsViewOf s f a → IsViewOf s g b → top_of_views a b ≡ T.Leaves x y → (s.tree f ≡ Ends x) × (s.tree g ≡ Ends y)
+ends-of s (V.Leaf a) (V.Leaf b) f g x y h i e =
+    let p : a ≡ x = cc in
+    let q : b ≡ y = cc in
+    (h ∙ ap Ends p, i ∙ ap Ends q)
+ends-of s (V.Leaf a) (V.Test l v m) f g x y h i e = absurd (cc e)
+ends-of s (V.Test k v m) (V.Leaf b) f g x y h i e = absurd (cc e)
+ends-of s (V.Test k v m) (V.Test l w n) f g x y h i e = absurd (cc e)
+
+-- the lower of two views' levels is that of the trees
+top-of : (s : Shown) (a b : View) (f g : Entry) (l : Level) → IsViewOf s f a → IsViewOf s g b → top_of_views a b ≡ T.At l
+    → BothEnd (s.tree f) (s.tree g) ⊎ Meets (slots s.sizes) (top_of (s.tree f) (s.tree g)) (s.tree f) (s.tree g) → Meets (slots s.sizes) l.0 (s.tree f) (s.tree g)
+top-of s (V.Leaf a) (V.Leaf b) f g l h i e m = absurd (cc e)
+top-of s (V.Leaf a) (V.Test k v n) f g l h i e m =
+    let p : k ≡ l = cc in
+    rw (h, i.0) (elim (rw (h, i.0) at m) [ inl q ↦ absurd q | inr q ↦ rw (sym p) q ])
+top-of s (V.Test j y n) (V.Leaf a) f g l h i e m =
+    let p : j ≡ l = cc in
+    rw (h.0, i) (elim (rw (h.0, i) at m) [ inl q ↦ absurd q | inr q ↦ rw (sym p) q ])
+top-of s (V.Test j y n) (V.Test k v w) f g l h i e m =
+    let p : cond (nat_lt k.0 j.0) k j ≡ l = cc in
+    let q : cond (nat_lt k.0 j.0) k.0 j.0 ≡ l.0 = lower (nat_lt k.0 j.0) ∙ ap (λ (x : Level). x.0) p in
+    rw (h.0, i.0) (elim (rw (h.0, i.0) at m) [ inl z ↦ absurd z | inr z ↦ rw (sym q) z ])
+  where
+    lower : (t : Bool) → cond t k.0 j.0 ≡ (cond t k j).0
+    lower true = refl
+    lower false = refl
+
+-- a half of a tree has levels past its level alone
+pub half-yes : (ds : List ℕ) (l : ℕ) (t : Tree) → l < levels_of ds → Splits ds l t → tree_rank ds (yes_at l t) < levels_of ds - l
+half-yes ds l t h s = rank-from ds l (after ds l) (yes_at l t) h (after_above ds l h) s.yes_from
+
+pub half-no : (ds : List ℕ) (l : ℕ) (t : Tree) → l < levels_of ds → Splits ds l t → tree_rank ds (no_at l t) < levels_of ds - l
+half-no ds l t h s = elim s.no_fits [ inl f ↦ rank-from ds l (after ds l) (no_at l t) h (after_above ds l h) f | inr f ↦ rank-at ds l (no_at l t) h f.0 ]
+
+at-rank : (ds : List ℕ) (l : ℕ) (t : Tree) → IsAt l t → tree_rank ds t ≡ levels_of ds - l
+at-rank ds l (Ends a) h = absurd h
+at-rank ds l (Tests k y n) h = ap (λ v. levels_of ds - v) h
+
+pub one-rank : (ds : List ℕ) (l : ℕ) (t u : Tree) → IsAt l t ⊎ IsAt l u → levels_of ds - l ≤ pair_rank ds t u
+one-rank ds l t u (inl h) = let e : tree_rank ds t ≡ levels_of ds - l = at-rank ds l t h in omega arith
+one-rank ds l t u (inr h) = let e : tree_rank ds u ≡ levels_of ds - l = at-rank ds l u h in omega arith
+
+pub join-ends : (l : ℕ) (y n : Tree) (a : Leaf) → join l y n ≡ Ends a → (y ≡ Ends a) × (n ≡ Ends a)
+join-ends l y n a = go (tree_eq y n) refl
+  where
+    go : (t : Bool) → tree_eq y n ≡ t → cond t n (Tests l y n) ≡ Ends a → (y ≡ Ends a) × (n ≡ Ends a)
+    go true e h = (tree_eq-true y n e ∙ h, h)
+    go false e h = absurd (cc h)
+
+-- two leaves that an operation meets fit
+pub fit-leaves : (fits : Leaf → Leaf → Bool) (x y : Leaf) → AllFit fits (Ends x) (Ends y) → fits x y ≡ true
+fit-leaves fits x y h = go (fits x y) h
+  where
+    go : (b : Bool) → Ends (cond b (Act 1) (Act 0)) ≡ Ends (Act 1) → b ≡ true
+    go true e = refl
+    go false e = absurd (cc e)
+
+module _ (fits : Leaf → Leaf → Bool) (op : Leaf → Leaf → Leaf) (s : Shown) (o : IsSound s) (f g : Entry) (kf : s.knows f ≡ true) (kg : s.knows g ≡ true) (may : MayApply fits s.sizes (s.tree f) (s.tree g)) where
+  abbrev ds : List ℕ
+  ds = slots s.sizes
+
+  pub fit-ends : (x y : Leaf) → s.tree f ≡ Ends x → s.tree g ≡ Ends y → fits x y ≡ true
+  fit-ends x y h i = fit-leaves fits x y (rw (h, i) at may.fit)
+
+  plans-from : (l : ℕ) (fy fn gy gn : Entry) → Meets ds l (s.tree f) (s.tree g) → Known s fy (yes_at l (s.tree f)) → Known s fn (no_at l (s.tree f)) → Known s gy (yes_at l (s.tree g)) → Known s gn (no_at l (s.tree g))
+      → PlansTest (applied op) (MayApply fits s.sizes) s f g l (B.Pair fy gy) (B.Pair fn gn)
+  plans-from l fy fn gy gn m a b c d =
+      let w : Descends ds l (yes_at l (s.tree f)) (no_at l (s.tree f)) (yes_at l (s.tree g)) (no_at l (s.tree g)) = descends ds l (s.tree f) (s.tree g) (o.reduced f kf) (o.reduced g kg) m in
+      let both : AllFit fits (yes_at l (s.tree f)) (yes_at l (s.tree g)) × AllFit fits (no_at l (s.tree f)) (no_at l (s.tree g)) = join-ends l _ _ (Act 1) (sym (m.is_join (fit_mark fits)) ∙ may.fit) in
+      let ry = half-yes ds l (s.tree f) m.level m.left in
+      let rz = half-yes ds l (s.tree g) m.level m.right in
+      let rn = half-no ds l (s.tree f) m.level m.left in
+      let rm = half-no ds l (s.tree g) m.level m.right in
+      let top = one-rank ds l (s.tree f) (s.tree g) m.one_at in
+      record {
+        level_in = m.level;
+        is = rw (a.tree, b.tree, c.tree, d.tree) (m.is_join op);
+        can_test = rw (a.tree, b.tree, c.tree, d.tree) (w.can_test op);
+        yes_goes = record { left = a.knows; right = c.knows; trees = rw (a.tree, c.tree) (record { aligned = w.aligned_yes; fit = both.0 }) };
+        no_goes = record { left = b.knows; right = d.knows; trees = rw (b.tree, d.tree) (record { aligned = w.aligned_no; fit = both.1 }) };
+        yes_smaller = rw (a.tree, c.tree) (omega (arith, ry, rz, top));
+        no_smaller = rw (b.tree, d.tree) (omega (arith, rn, rm, top));
+      }
+
+  pub plans-at : (a b : View) (l : Level) → IsViewOf s f a → IsViewOf s g b → top_of_views a b ≡ T.At l
+      → PlansTest (applied op) (MayApply fits s.sizes) s f g l.0 (B.Pair (next_yes a f l) (next_yes b g l)) (B.Pair (next_no a f l) (next_no b g l))
+  plans-at a b l h i e =
+      plans-from l.0 (next_yes a f l) (next_no a f l) (next_yes b g l) (next_no b g l)
+      (top-of s a b f g l h i e (meets-cases ds (s.tree f) (s.tree g) (o.reduced f kf) (o.reduced g kg) may.aligned))
+      (next_yes-is s a f l kf h) (next_no-is s a f l kf h) (next_yes-is s b g l kg i) (next_no-is s b g l kg i)

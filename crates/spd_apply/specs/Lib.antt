@@ -1,0 +1,7 @@
+pub mod Applied
+pub mod Halves
+pub mod Operations
+pub mod Outcome
+pub mod Rounding
+pub mod Rules
+pub mod Views

@@ -1,0 +1,85 @@
+-- How an operation on diagrams goes down: what it makes of two trees, said of the trees below theirs.
+use Rattle.std.specs.Prelude.{◌≡◌, ℕ, ◌+◌, ◌<◌, ◌≤◌, [], ◌∷◌, true, Contains}
+use Rattle.spd_cons_core.specs.declared.key.Entry.{Entry}
+use Rattle.spd_memo.specs.Kept.{Kept}
+use Rattle.spd_nodes.specs.Levels.{levels_of, slots}
+use Rattle.spd_nodes.specs.Trees.{Tree, Ends, join, CanTest}
+use Rattle.spd_nodes.specs.Shown.{Shown, IsSound, Grows, MakesOnly}
+use Rattle.spd_apply.specs.Halves.{pair_rank}
+use Rattle.spd_apply.specs.declared.rule.Below.{Below}
+use Rattle.spd_apply.specs.declared.rule.Below.TheVariants as B
+use Rattle.spd_apply.specs.declared.rule.Plan.{Plan}
+use Rattle.spd_apply.specs.declared.rule.Plan.TheVariants as P
+
+-- what an operation makes of two trees
+abbrev pub Making : Type 0
+Making = Tree → Tree → Tree
+
+-- the tree that is made below
+abbrev pub below_tree : Making → Shown → Below → Tree
+below_tree making s (B.Known r) = s.tree r
+below_tree making s (B.Pair f g) = making (s.tree f) (s.tree g)
+
+-- how many levels what is below has at most, and one more for a pair
+abbrev pub below_rank : Shown → Below → ℕ
+below_rank s (B.Known r) = 0
+below_rank s (B.Pair f g) = 1 + pair_rank (slots s.sizes) (s.tree f) (s.tree g)
+
+-- two known entries that an operation may meet
+pub record MayMeet (may : Tree → Tree → Type 0) (s : Shown) (f g : Entry) : Type 0 where
+  pub left : s.knows f ≡ true
+  pub right : s.knows g ≡ true
+  pub trees : may (s.tree f) (s.tree g)
+
+-- what is below is a known entry, or a pair that the operation may meet
+abbrev pub IsBelow : (Tree → Tree → Type 0) → Shown → Below → Type 0
+IsBelow may s (B.Known r) = s.knows r ≡ true
+IsBelow may s (B.Pair f g) = MayMeet may s f g
+
+-- what is made is what is made below
+pub record PlansBelow (making : Making) (may : Tree → Tree → Type 0) (s : Shown) (f g : Entry) (below : Below) : Type 0 where
+  pub is : making (s.tree f) (s.tree g) ≡ below_tree making s below
+  pub goes : IsBelow may s below
+  pub smaller : below_rank s below ≤ pair_rank (slots s.sizes) (s.tree f) (s.tree g)
+
+-- what is made is a test of what is made below, or one of these where both are equal
+pub record PlansTest (making : Making) (may : Tree → Tree → Type 0) (s : Shown) (f g : Entry) (level : ℕ) (yes no : Below) : Type 0 where
+  pub level_in : level < levels_of (slots s.sizes)
+  pub is : making (s.tree f) (s.tree g) ≡ join level (below_tree making s yes) (below_tree making s no)
+  pub can_test : CanTest (slots s.sizes) level (below_tree making s yes) (below_tree making s no)
+  pub yes_goes : IsBelow may s yes
+  pub no_goes : IsBelow may s no
+  pub yes_smaller : below_rank s yes ≤ pair_rank (slots s.sizes) (s.tree f) (s.tree g)
+  pub no_smaller : below_rank s no ≤ pair_rank (slots s.sizes) (s.tree f) (s.tree g)
+
+-- a plan says what is made of two entries
+abbrev pub IsPlan : Making → (Tree → Tree → Type 0) → Shown → Entry → Entry → Plan → Type 0
+IsPlan making may s f g (P.Leaf a) = making (s.tree f) (s.tree g) ≡ Ends a
+IsPlan making may s f g (P.Below b) = PlansBelow making may s f g b
+IsPlan making may s f g (P.Test l y n) = PlansTest making may s f g l.0 y n
+
+-- an entry is what an operation makes of two others
+pub record IsAnswer (making : Making) (s : Shown) (f g r : Entry) : Type 0 where
+  pub left : s.knows f ≡ true
+  pub right : s.knows g ≡ true
+  pub answer : s.knows r ≡ true
+  pub is : s.tree r ≡ making (s.tree f) (s.tree g)
+
+-- a memo holds only answers of an operation, for entries that the forest knows
+pub record HoldsAnswers (making : Making) (s : Shown) (k : Kept) : Type 0 where
+  pub each : (f g r : Entry) → Contains k.pairs ((f, g), r) → IsAnswer making s f g r
+
+-- two known entries may be met, and the memo holds only answers
+pub record IsReady (making : Making) (may : Tree → Tree → Type 0) (s : Shown) (f g : Entry) (k : Kept) : Type 0 where
+  pub sound : IsSound s
+  pub left : s.knows f ≡ true
+  pub right : s.knows g ≡ true
+  pub may_meet : may (s.tree f) (s.tree g)
+  pub memo : HoldsAnswers making s k
+
+-- all that was known stays, only nodes of a tree were made, and the memo holds only answers
+pub record Did (making : Making) (s t : Shown) (u : Tree) (k : Kept) : Type 0 where
+  pub sound : IsSound t
+  pub grows : Grows s t
+  pub makes : MakesOnly s t (u ∷ [])
+  pub memo : HoldsAnswers making t k

@@ -1,0 +1,46 @@
+ghost use Rattle.std.specs.Prelude.{◌≡◌, ℕ, [], ◌∷◌, IfOk, IfErr, true};
+ghost use Rattle.spd_nodes.specs.Shown.{Shown, IsSound, Grows, IsWhole, StandsFor, MakesNodesOf, FaultsAt, meaning};
+ghost use Rattle.spd_apply.specs.Applied.{applied};
+ghost use Rattle.spd_apply.specs.Outcome.{FitEverywhere, at_each};
+ghost use Rattle.spd_apply.specs.Rules.{HoldsAnswers};
+
+use crate::leaf_op::LeafOp;
+use crate::make::make_pair;
+use crate::pointwise::Pointwise;
+use crate::rule::OpFault;
+use spd_memo::Memo;
+use spd_nodes::{Forest, Ref, Steps};
+use std::sync::ledger::Ledger;
+
+/// The diagram of an operation's answers at each state, for two diagrams whose leaves fit wherever they meet. The memo holds
+/// only answers of this operation, for Refs that the forest knows.
+///
+/// It makes only nodes of its answer. Full comes only where a call of the forest answered Full in this call. Calls nest at
+/// most three deep a level, and there are at most 512 levels.
+pub fn apply<F: Forest, O: LeafOp, L: Ledger>(
+    forest: &mut F,
+    op: &O,
+    f: Ref,
+    g: Ref,
+    memo: &mut Memo,
+    steps: &mut Steps<L>,
+) -> Result<Ref, OpFault>
+    requires left { (F.shows forest.old).knows f ≡ true }
+    requires right { (F.shows forest.old).knows g ≡ true }
+    requires left_whole { IsWhole (F.shows forest.old) f }
+    requires right_whole { IsWhole (F.shows forest.old) g }
+    requires fit { FitEverywhere (O.fits op.now) (F.shows forest.old) f g }
+    requires memo { HoldsAnswers (applied (O.of op.now)) (F.shows forest.old) memo.old }
+
+    ensures sound { IsSound (F.shows forest.new) }
+    ensures grows { Grows (F.shows forest.old) (F.shows forest.new) }
+    ensures keeps { F.kept forest.new ≡ F.kept forest.old }
+    ensures ok { IfOk result (λ r. StandsFor (F.shows forest.new) r (at_each (O.of op.now) (meaning (F.shows forest.old) f) (meaning (F.shows forest.old) g))) }
+    ensures makes { MakesNodesOf (F.shows forest.old) (F.shows forest.new) (at_each (O.of op.now) (meaning (F.shows forest.old) f) (meaning (F.shows forest.old) g) ∷ []) }
+    ensures fault { IfErr result (λ e. FaultsAt e (F.shows forest.new) (at_each (O.of op.now) (meaning (F.shows forest.old) f) (meaning (F.shows forest.old) g) ∷ [])) }
+    ensures memo { HoldsAnswers (applied (O.of op.now)) (F.shows forest.new) memo.new }
+    ensures capacity { memo.new.capacity ≡ memo.old.capacity }
+{
+    let _ = forest.layout();
+    make_pair(forest, &Pointwise { op }, f, g, memo, steps)
+}

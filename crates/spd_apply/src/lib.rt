@@ -1,0 +1,25 @@
+//! Operations on diagrams, at each leaf.
+#![tactic(auto)]
+
+pub mod binary;
+pub mod leaf_op;
+pub mod make;
+pub mod maps;
+pub mod operations;
+pub mod pointwise;
+pub mod rounding;
+pub mod rule;
+pub mod unary;
+
+pub use binary::apply;
+pub use leaf_op::{LeafMap, LeafOp};
+pub use make::{make_alone, make_pair};
+pub use maps::{ActNum, First, Second, SecondAct};
+pub use operations::{Add, Keep, MakePair, Max, Min, Mul, PickFirst, Sub};
+pub use pointwise::Pointwise;
+pub use rounding::{CeilBy, FloorBy, TimesCeil, TimesFloor};
+pub use rule::{Below, OpFault, Plan, Rule};
+pub use unary::{EachLeaf, map_leaves};
+
+#[cfg(test)]
+mod tests;

@@ -1,0 +1,7 @@
+pub mod Sums
+pub mod Expectations
+pub mod Returns
+pub mod Residual
+pub mod Policies
+pub mod Bounds
+mod Rows

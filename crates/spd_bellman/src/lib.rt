@@ -1,0 +1,63 @@
+//! What a Bellman residual is worth: the bound for every state, every course of action and every number of steps.
+//!
+//! The functions carry laws about the definitions of `spd_model`. They take nothing, answer nothing and do nothing: each
+//! clause holds of every process, whether a program ever meets it or not.
+#![tactic(auto)]
+
+ghost use Rattle.std.specs.Prelude.{ℕ, ◌^◌, ◌<◌, ◌≡◌, length, List, Contains, ℤ, pos, ◌*ℤ◌, ◌≤ℤ◌};
+ghost use Rattle.spd_model.specs.declared.process.Action.{Action};
+ghost use Rattle.spd_model.specs.Process.{Process};
+ghost use Rattle.spd_model.specs.States.{sizes, IsState, sum_over_states};
+ghost use Rattle.spd_model.specs.Chances.{IsValid, joint, scale_of};
+ghost use Rattle.spd_model.specs.Backup.{low_of, high_of, policy_of};
+ghost use Rattle.spd_model.specs.Turns.{residual_of};
+ghost use Rattle.spd_bellman.specs.Courses.{IsPolicy, IsAmongCourses, exact_return};
+ghost use Rattle.spd_bellman.specs.Certificate.{Holds};
+ghost use Rattle.spd_bellman.specs.Bound.{IsBoundAbove, IsBoundBelow, IsPolicyNear, IsNearOptimal};
+
+/// The joint probabilities of all next states are at least 0, and sum to one.
+///
+/// They count in parts of 10^12 to the power of the number of variables.
+pub fn law_joint()
+    ensures nonnegative { (m : Process) → IsValid m → (a : Action) → Contains m.actions a → (s t : List ℕ)
+        → IsState (sizes m) s → IsState (sizes m) t → pos 0 ≤ℤ joint m a s t }
+    ensures whole { (m : Process) → IsValid m → (a : Action) → Contains m.actions a → (s : List ℕ) → IsState (sizes m) s
+        → sum_over_states (sizes m) (joint m a s) ≡ pos ((10 ^ 12) ^ length m.vars) }
+{}
+
+/// The rounded bounds of an action enclose its exact expected return, whatever value follows.
+pub fn law_enclosure()
+    ensures below { (m : Process) → IsValid m → (w : List ℕ → ℤ) (a : Action) → Contains m.actions a → (s : List ℕ)
+        → IsState (sizes m) s → (pos (scale_of m) *ℤ low_of m w a s) ≤ℤ exact_return m (scale_of m) w a s }
+    ensures above { (m : Process) → IsValid m → (w : List ℕ → ℤ) (a : Action) → Contains m.actions a → (s : List ℕ)
+        → IsState (sizes m) s → exact_return m (scale_of m) w a s ≤ℤ (pos (scale_of m) *ℤ high_of m w a s) }
+{}
+
+/// To follow a policy is a course of action, so what holds of every course holds of it.
+pub fn law_policy()
+    ensures { (m : Process) (policy : List ℕ → ℕ) → IsPolicy m policy → IsAmongCourses m policy }
+{}
+
+/// Where a certificate holds, no course of action returns more than the value plus the residual over one minus the
+/// discount, and the policy returns no less than the value minus as much, for every state and number of steps.
+pub fn law_courses()
+    ensures above { (m : Process) → IsValid m → (w : List ℕ → ℤ) (policy : List ℕ → ℕ) (r : ℤ) → IsPolicy m policy
+        → Holds m w policy r → IsBoundAbove m w r }
+    ensures below { (m : Process) → IsValid m → (w : List ℕ → ℤ) (policy : List ℕ → ℕ) (r : ℤ) → IsPolicy m policy
+        → Holds m w policy r → IsBoundBelow m w policy r }
+{}
+
+/// Every value, with its policy and its Bellman residual, is a certificate that holds.
+pub fn law_residual()
+    ensures policy { (m : Process) → 0 < length m.actions → (w : List ℕ → ℤ) → IsPolicy m (policy_of m w) }
+    ensures holds { (m : Process) → 0 < length m.actions → (w : List ℕ → ℤ) → Holds m w (policy_of m w) (residual_of m w) }
+{}
+
+/// Every value and its policy are optimal up to the value's residual over one minus the discount.
+///
+/// So no course of action returns more than the policy by more than twice that.
+pub fn law_bound()
+    ensures value { (m : Process) → IsValid m → 0 < length m.actions → (w : List ℕ → ℤ) → IsNearOptimal m w }
+    ensures policy { (m : Process) → IsValid m → 0 < length m.actions → (w : List ℕ → ℤ)
+        → IsPolicyNear m w (policy_of m w) (pos 2 *ℤ residual_of m w) }
+{}

@@ -1,0 +1,5 @@
+pub mod Views
+pub mod Spelling
+pub mod Seats
+pub mod Events
+pub mod Invariants

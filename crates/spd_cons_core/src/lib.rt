@@ -1,0 +1,26 @@
+//! The table machine: a table of nodes that several seats fill, one atomic step at a time.
+//!
+//! The machine is plain data, and an event is one atomic step of one seat. It says which steps the
+//! running table may take, and proves what holds between any two of them, whatever their order.
+#![tactic(auto)]
+
+mod event;
+mod key;
+pub mod laws;
+mod mind;
+mod seat;
+mod spelling;
+mod steps;
+mod table;
+#[cfg(test)]
+mod tests;
+
+pub use event::Event;
+pub use key::{Entry, Key};
+pub use mind::{Call, Known, Last, Mind};
+pub use spelling::{start_bucket, words_of};
+pub use steps::{run, step};
+pub use table::{Core, Words};
+
+/// Want of memory.
+pub type Memory = std::alloc::AllocError;

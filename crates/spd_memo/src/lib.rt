@@ -1,0 +1,60 @@
+//! Tables of the answers of one operation on diagrams, by their two operands.
+#![tactic(auto)]
+
+ghost use Rattle.std.specs.Prelude.{◌≡◌, ℕ, ◌<◌, [], IfOk, OnOk, OnErr};
+ghost use Rattle.spd_memo.specs.Kept.{Kept, answer_in, promoted_in, put_in};
+
+use lru::LruCache;
+use spd_cons_core::Entry;
+use std::alloc::{AllocError, Global};
+use std::marker::Model;
+use std::num::NonZeroUsize;
+
+/// The answers of one operation for pairs of Refs, the most recently used first. It keeps at most `capacity` pairs, and
+/// drops the one that was used least recently. Contracts see the pairs in this order, and the capacity.
+#[derive(Drop)]
+pub struct Memo {
+    cache: LruCache<(Entry, Entry), Entry>,
+}
+
+impl Model for Memo {
+    ghost use Rattle.spd_memo.specs.Kept.{Kept};
+
+    ghost Value = { Kept };
+
+    ghost view = { λ m. record { pairs = m.cache.entries; capacity = m.cache.cap } };
+}
+
+impl Memo {
+    /// A memo that keeps no pair yet, and takes memory as it fills. It fails only for want of memory.
+    pub fn new(alloc: Global, capacity: usize) -> Result<Memo, AllocError>
+        requires { 0 < capacity }
+        ensures { IfOk result (λ m. m ≡ record { pairs = []; capacity = capacity }) }
+    {
+        match NonZeroUsize::new(capacity) {
+            Some(capacity) => Ok(Memo {
+                cache: LruCache::sparse(alloc, capacity)?,
+            }),
+            None => unreachable!(),
+        }
+    }
+
+    /// The answer that is kept for a pair, which then is the newest one. None comes exactly where the pair isn't kept.
+    pub fn get(&mut self, f: Entry, g: Entry) -> Option<Entry>
+        ensures answer { result ≡ answer_in self.old.pairs f g }
+        ensures kept { self.new.pairs ≡ promoted_in self.old.pairs f g }
+        ensures capacity { self.new.capacity ≡ self.old.capacity }
+    {
+        self.cache.get(&(f, g)).copied()
+    }
+
+    /// Keeps an answer for a pair, as the newest one. A pair that wasn't kept drops the oldest of `capacity` pairs. Where
+    /// there is no memory, nothing changes.
+    pub fn put(&mut self, f: Entry, g: Entry, r: Entry) -> Result<(), AllocError>
+        ensures ok { OnOk result (self.new ≡ put_in self.old f g r) }
+        ensures err { OnErr result (self.new ≡ self.old) }
+    {
+        self.cache.put((f, g), r)?;
+        Ok(())
+    }
+}

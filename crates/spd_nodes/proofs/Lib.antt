@@ -1,0 +1,9 @@
+pub mod KeyLaws
+pub mod LayoutLaws
+pub mod RankLaws
+pub mod RefLaws
+pub mod ShownLaws
+pub mod StateLaws
+pub mod StoreLaws
+pub mod TreeLaws
+pub mod ValueLaws

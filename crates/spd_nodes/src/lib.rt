@@ -1,0 +1,26 @@
+//! Reduced test trees over the variables' present and next values, and the stores that hold each of them once.
+#![tactic(auto)]
+
+pub mod alone;
+pub mod counting;
+pub mod forest;
+mod keys;
+pub mod layout;
+pub mod leaf;
+pub mod reach;
+pub mod refs;
+pub mod same;
+pub mod steps;
+
+pub use alone::Alone;
+pub use counting::Counting;
+pub use forest::{Forest, Ref, StoreFault, View};
+pub use layout::{Layout, Level};
+pub use leaf::Leaf;
+pub use reach::{count, reached};
+pub use refs::Refs;
+pub use same::{is_same_function, is_same_rest};
+pub use steps::Steps;
+
+#[cfg(test)]
+mod tests;

@@ -1,0 +1,37 @@
+use Rattle.std.proofs.Common.{rules, ◌≡◌, length, pos, ℕ, ◌*ℤ◌, FitsSigned, slice_index_or, ap, ◌∙◌, subst, sym, arith}
+use Rattle.std.proofs.lemmas.Int.{to_z-of_z}
+use mir.Syntax.{w128}
+use Rattle.spd_scaled.specs.Scaled.{IsWithin}
+use Rattle.spd_model.specs.Numbers.{sum_below}
+use Rattle.spd_model.specs.Chances.{one}
+use Rattle.spd_plain.specs.Outlooks.{value_limit}
+use Rattle.spd_plain.proofs.Weights.{term_fits, next_sum, next_fits, part_within}
+use Rattle.spd_plain.proofs.backup.weighted_sum.Goals as goal
+
+pub overflow_mul-sum : goal.overflow_mul-sum
+overflow_mul-sum c =
+    let chance : FitsSigned w128 (slice_index_or c.args.chances.now c.loop-value.value (pos 0)) = search rules in
+    let value : FitsSigned w128 (slice_index_or c.args.values.now c.loop-value.value (pos 0)) = search rules in
+    simp to_z-of_z (term_fits c.args.chances.now c.args.values.now c.requires.chances c.requires.values c.loop-value.value c.loop-value-test.true)
+
+pub overflow_add-sum : goal.overflow_add-sum
+overflow_add-sum c =
+    let chance : FitsSigned w128 (slice_index_or c.args.chances.now c.loop-value.value (pos 0)) = search rules in
+    let value : FitsSigned w128 (slice_index_or c.args.values.now c.loop-value.value (pos 0)) = search rules in
+    let product = term_fits c.args.chances.now c.args.values.now c.requires.chances c.requires.values c.loop-value.value c.loop-value-test.true in
+    simp to_z-of_z (next_fits c.args.chances.now c.args.values.now c.requires.chances c.requires.values c.loop-value.value _ c.loop-value.invariant c.loop-value-test.true)
+
+pub loop-value-preserved : goal.loop-value-preserved
+loop-value-preserved c =
+    let chance : FitsSigned w128 (slice_index_or c.args.chances.now c.loop-value.value (pos 0)) = search rules in
+    let value : FitsSigned w128 (slice_index_or c.args.values.now c.loop-value.value (pos 0)) = search rules in
+    let product = term_fits c.args.chances.now c.args.values.now c.requires.chances c.requires.values c.loop-value.value c.loop-value-test.true in
+    let fits = next_fits c.args.chances.now c.args.values.now c.requires.chances c.requires.values c.loop-value.value _ c.loop-value.invariant c.loop-value-test.true in
+    simp to_z-of_z (next_sum c.args.chances.now c.args.values.now c.requires.chances c.requires.values c.loop-value.value _ c.loop-value.invariant)
+
+pub returns-clause-within : goal.returns-clause-within
+returns-clause-within c =
+    let all : c.loop-value.value ≡ length c.args.chances.now = omega arith in
+    subst (IsWithin (one *ℤ pos value_limit))
+    (sym (c.loop-value.invariant ∙ ap (λ (n : ℕ). sum_below n (λ v. slice_index_or c.args.chances.now v (pos 0) *ℤ slice_index_or c.args.values.now v (pos 0))) all))
+    (part_within c.args.chances.now c.args.values.now c.requires.chances c.requires.values (length c.args.chances.now) (omega arith))

@@ -1,0 +1,41 @@
+use Rattle.std.proofs.Common.{◌≡◌, All, IfOk, map, ap, ◌∙◌, sym, subst}
+use Rattle.std.specs.List.Sorted.{IsStrictlySortedBy}
+use Rattle.std.proofs.lemmas.Iterator.{items_from_collect}
+use Rattle.std.proofs.lemmas.Iterator.Consumers.{YieldsList-from_copied, YieldsList-from_rest}
+use Rattle.std.proofs.lemmas.List.{take_all}
+use Rattle.std.proofs.lemmas.List.Elements.{All-get_or}
+use Rattle.std.proofs.lemmas.Map.Views.{All-insert_key}
+use Rattle.std.proofs.lemmas.Result.{IfOk-weaker}
+use Rattle.spd_model.specs.Ranges.{in_order}
+use Rattle.spd_plain.specs.Bounds.{range_of, bounds_cmp, IsSmall}
+use Rattle.spd_plain.proofs.RangeOrder.{map-insert_key, in_order_more}
+use Rattle.spd_plain.proofs.ranges.distinct_ranges.Goals as goal
+
+pub loop-range-preserved : goal.loop-range-preserved
+loop-range-preserved c = record {
+  items =
+      ap (map range_of) c.in_ok-insert.ensures.keys ∙ map-insert_key c.loop-range.distinct.keys _
+      ∙ in_order_more _ _ c.loop-range.range-index _ c.loop-range.invariant.items c.loop-range-test.true;
+  small = λ h. subst (All IsSmall) (sym c.in_ok-insert.ensures.keys)
+      (All-insert_key bounds_cmp _ IsSmall _ (c.loop-range.invariant.small h) (All-get_or IsSmall _ _ _ c.loop-range-test.true h));
+}
+
+-- the keys of the set
+collected : (c : goal.After-drop-distinct-2) → IfOk c.collect.result (λ v. v.items ≡ c.loop-range.distinct.keys)
+collected c =
+    items_from_collect _ c.collect.ensures.ran
+    (YieldsList-from_copied (YieldsList-from_rest c.loop-range.distinct.keys (c.copied.ensures.source ∙ c.iter.ensures.rest)))
+
+pub returns-clause-items : goal.returns-clause-items
+returns-clause-items c =
+    let all = take_all c.loop-range.range-index c.args.ranges.now c.loop-range-test.false in
+    let is = c.loop-range.invariant.items ∙ ap (λ xs. in_order (map range_of xs)) all in
+    IfOk-weaker c.collect.result _ _ (λ v e. ap (map range_of) e ∙ is) (collected c)
+
+pub returns-clause-ordered : goal.returns-clause-ordered
+returns-clause-ordered c =
+    IfOk-weaker c.collect.result _ _ (λ v e. subst (IsStrictlySortedBy bounds_cmp) (sym e) c.iter.ensures.ordered) (collected c)
+
+pub returns-clause-small : goal.returns-clause-small
+returns-clause-small c h =
+    IfOk-weaker c.collect.result _ _ (λ v e. subst (All IsSmall) (sym e) (c.loop-range.invariant.small h)) (collected c)

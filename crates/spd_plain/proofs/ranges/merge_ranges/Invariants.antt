@@ -1,0 +1,8 @@
+use Rattle.std.proofs.Common.{◌≡◌, map, take}
+use Rattle.spd_model.specs.Ranges.{in_order, groups_of, value_in}
+use Rattle.spd_plain.specs.Bounds.{range_of}
+use Rattle.spd_plain.proofs.ranges.merge_ranges.Given as goal
+
+abbrev pub invariant-loop-range : goal.invariant-loop-range
+invariant-loop-range l = l.merged.items
+    ≡ map (value_in (groups_of l.fn.span (in_order (map range_of l.ranges)))) (map range_of (take l.range-index l.ranges))

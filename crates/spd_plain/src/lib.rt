@@ -1,0 +1,14 @@
+//! Value iteration over plain tables, with one entry for each state: the solver that the diagrams are compared with.
+#![tactic(auto)]
+
+mod backup;
+mod law;
+mod outlook;
+mod ranges;
+mod solve;
+mod states;
+mod sweep;
+mod validity;
+
+pub use law::law_bounded;
+pub use solve::{Plain, PlainFault, plain_solve};

@@ -1,0 +1,216 @@
+//! Value iteration on plain tables.
+
+ghost use Rattle.std.specs.Prelude.{◌≡◌, ◌≤◌, ◌^◌, length, pos, ◌≤ℤ◌, IfOk, IfErr, OnOk};
+ghost use Rattle.spd_scaled.specs.Scaled.{IsWithin};
+ghost use Rattle.spd_model.specs.Chances.{IsValid};
+ghost use Rattle.spd_model.specs.States.{sizes, at};
+ghost use Rattle.spd_model.specs.Turns.{stops_at, error_of as error_of_residual, stop_of};
+ghost use Rattle.spd_plain.specs.Outlooks.{outlooks_of, value_limit};
+ghost use Rattle.spd_plain.specs.Sweeps.{CanSweep, IsSweep};
+ghost use Rattle.spd_plain.specs.Plain.{plain_of, stop_record, Cause, IsShaped, IsPlaced, IsInvalid};
+
+use crate::outlook::{Outlook, tabulate};
+use crate::ranges::merge_ranges;
+use crate::sweep::{Sweep, policy, residual_place, start, sweep_states};
+use crate::validity::{first_wide_reward, first_wrong_sum};
+use spd_model::{Model, Side, State, Why};
+use spd_scaled::ceil_div;
+use sqlite_items::Items;
+use std::alloc::{AllocError, Global};
+
+/// What value iteration ends with.
+#[derive(Debug, Drop)]
+pub struct Plain {
+    /// The turn at which the run stopped.
+    pub turn: u32,
+    /// Why it stopped there.
+    pub why: Why,
+    /// The value of each state in order, in units of 10^-9.
+    pub value: Items<i128>,
+    /// The number of the action that the policy takes at each state in order.
+    pub policy: Items<u32>,
+    /// The Bellman residual of the value, in units of 10^-9.
+    pub residual: i128,
+    /// The first state at which the residual lies.
+    pub place: State,
+    /// The side of the value on which it lies there.
+    pub side: Side,
+    /// The number of the action whose bound lies there.
+    pub action: u32,
+    /// How far the value may be from the optimal one, in units of 10^-9.
+    pub error: i128,
+}
+
+/// Why a model has no value function.
+#[derive(Debug, Drop)]
+pub enum PlainFault {
+    /// The probabilities of a variable's next values don't sum to one: the first such action, variable and state, and the sum in units of 10^-12.
+    Sum {
+        action: u32,
+        var: u32,
+        state: State,
+        sum: i128,
+    },
+    /// A reward passes its limit: the first such action and state, and the reward in units of 10^-9.
+    Range {
+        action: u32,
+        state: State,
+        value: i128,
+    },
+    /// There is no memory.
+    Memory,
+}
+
+/// Where a run of value iteration stopped.
+#[derive(Debug, Drop)]
+pub struct Stop {
+    pub turn: u32,
+    pub why: Why,
+    /// The value of each state in order, in units of 10^-9.
+    pub value: Vec<i128>,
+    /// What a sweep over all states finds there.
+    pub sweep: Sweep,
+}
+
+/// One, as a discount.
+const WHOLE: u32 = 1_000_000;
+
+/// Whether a run stops at a turn with this residual.
+fn is_done(model: &Model, residual: i128) -> bool
+    requires { IsWithin (pos (10 ^ 31)) residual }
+    ensures { result ≡ stops_at model.now residual }
+{
+    2 * residual * 1_000_000 <= model.tolerance * (WHOLE - model.discount) as i128
+}
+
+/// How far a value with this residual may be from the optimal one, in units of 10^-9, rounded up.
+fn error_of(model: &Model, residual: i128) -> i128
+    requires { IsWithin (pos (10 ^ 31)) residual }
+    ensures { result ≡ error_of_residual model.now residual }
+{
+    ceil_div(residual * 1_000_000, (WHOLE - model.discount) as i128)
+}
+
+/// Runs value iteration up to the first turn at which the stop rule holds, and at most to turn `turns`.
+fn run_turns(
+    alloc: Global,
+    model: &Model,
+    rows: &[Items<Outlook>],
+    turns: u32,
+    span: i128,
+) -> Result<Stop, AllocError>
+    requires one_variable { length model.now.vars ≡ 1 }
+    requires valid { IsValid model.now }
+    requires rows { rows.now ≡ outlooks_of model.now }
+    requires turns { turns ≤ 1000000 }
+    requires span_low { pos 0 ≤ℤ span }
+    requires span_high { span ≤ℤ pos (10 ^ 30) }
+    ensures stop { IfOk result (λ stop. stop_record stop ≡ stop_of model.now turns span) }
+    ensures values { IfOk result (λ stop. CanSweep model.now rows.now stop.value.items) }
+    ensures sweep { IfOk result (λ stop. IsSweep model.now stop.value.items stop.sweep) }
+{
+    let _vars = &model.vars;
+    let mut value = start(alloc, model, rows)?;
+    for turn in 0..turns {
+        let sweep = sweep_states(alloc, model, rows, &value)?;
+        if is_done(model, sweep.residual) {
+            return Ok(Stop {
+                turn,
+                why: Why::Done,
+                value,
+                sweep,
+            });
+        }
+        value = merge_ranges(alloc, &sweep.ranges, span)?;
+    }
+    let sweep = sweep_states(alloc, model, rows, &value)?;
+    let why = if is_done(model, sweep.residual) {
+        Why::Done
+    } else {
+        Why::Limit
+    };
+    Ok(Stop {
+        turn: turns,
+        why,
+        value,
+        sweep,
+    })
+}
+
+impl From<AllocError> for PlainFault {
+    ghost use Rattle.spd_plain.specs.declared.solve.PlainFault.TheVariants.{Memory};
+
+    ghost from_gives = { λ _ fault. fault ≡ Memory };
+
+    fn from(_error: AllocError) -> PlainFault {
+        PlainFault::Memory
+    }
+}
+
+/// The value function, the policy and the residual of a valid model.
+fn solve_valid(alloc: Global, model: &Model, turns: u32, span: i128) -> Result<Plain, AllocError>
+    requires one_variable { length model.now.vars ≡ 1 }
+    requires valid { IsValid model.now }
+    requires turns { turns ≤ 1000000 }
+    requires span_low { pos 0 ≤ℤ span }
+    requires span_high { span ≤ℤ pos (10 ^ 30) }
+    ensures { IfOk result (λ p. p ≡ plain_of model.now turns span) }
+{
+    let _vars = &model.vars;
+    let rows = tabulate(alloc, model)?;
+    let stop = run_turns(alloc, model, &rows, turns, span)?;
+    let policy = policy(alloc, model, &rows, &stop.value)?;
+    let place = residual_place(model, &rows, &stop.value, &stop.sweep);
+    let residual = stop.sweep.residual;
+    Ok(Plain {
+        turn: stop.turn,
+        why: stop.why,
+        value: Items::from_vec(stop.value),
+        policy: Items::from_vec(policy),
+        residual,
+        place: place.state,
+        side: place.side,
+        action: place.action,
+        error: error_of(model, residual),
+    })
+}
+
+/// Runs value iteration on a model, up to the first turn at which the stop rule holds and at most to turn `turns`.
+///
+/// `span` is the width of the ranges that are merged, in units of 10^-9. A model whose probabilities don't all sum to
+/// one is refused by `Sum`, and one with a reward above 10^18 units by `Range`. `Memory` comes where there is none.
+pub fn plain_solve(
+    alloc: Global,
+    model: &Model,
+    turns: u32,
+    span: i128,
+) -> Result<Plain, PlainFault>
+    requires one_variable { length model.now.vars ≡ 1 }
+    requires turns { turns ≤ 1000000 }
+    requires span_low { pos 0 ≤ℤ span }
+    requires span_high { span ≤ℤ pos (10 ^ 30) }
+    ensures valid { OnOk result (IsValid model.now) }
+    ensures solved { IfOk result (λ p. p ≡ plain_of model.now turns span) }
+    ensures cause { Cause model.now result }
+    ensures shaped { IfOk result (IsShaped model.now) }
+    ensures placed { IfErr result (IsPlaced model.now) }
+    ensures invalid { IfErr result (IsInvalid model.now) }
+{
+    let _vars = &model.vars;
+    if let Some(wrong) = first_wrong_sum(model) {
+        return Err(PlainFault::Sum {
+            action: wrong.action,
+            var: wrong.var,
+            state: wrong.state,
+            sum: wrong.sum,
+        });
+    }
+    if let Some(wide) = first_wide_reward(model) {
+        return Err(PlainFault::Range {
+            action: wide.action,
+            state: wide.state,
+            value: wide.value,
+        });
+    }
+    Ok(solve_valid(alloc, model, turns, span)?)
+}

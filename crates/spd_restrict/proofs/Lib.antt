@@ -1,0 +1,4 @@
+pub mod CofactorLaws
+pub mod FixedLaws
+pub mod PrimedLaws
+pub mod SlotLaws

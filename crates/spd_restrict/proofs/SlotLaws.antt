@@ -1,0 +1,87 @@
+-- The levels of one slot.
+use Rattle.std.proofs.Common.{◌≡◌, ℕ, zero, suc, ◌+◌, ◌-◌, ◌<◌, ◌≤◌, ◌==◌, Bool, true, false, cond, List, [], ◌∷◌, set, refl, ◌∙◌, ap, arith}
+use Rattle.std.specs.Prelude.{nat_lt}
+use Rattle.std.proofs.lemmas.Bool.Decides.{Decides-eqb, nat_tests}
+use Rattle.spd_nodes.specs.Levels.{passes, after, is_first, InRange}
+use Rattle.spd_restrict.specs.Restricted.{IsSlot}
+
+-- the slots after the first one
+slot-tail : (d : ℕ) (ds : List ℕ) (slot first end : ℕ) → IsSlot (d ∷ ds) (suc slot) first end → IsSlot ds slot (first - (d - 1)) (end - (d - 1))
+slot-tail d ds slot first end s = record { slot_in = omega (arith, s.slot_in); first_is = omega (arith, s.first_is); end_is = omega (arith, s.end_is, s.first_is) }
+
+-- inside a slot, the first level after its tests is its end
+pub after-in : (ds : List ℕ) (slot first end l : ℕ) → IsSlot ds slot first end → first ≤ l → l < end → after ds l ≡ end
+after-in [] slot first end l s g h = absurd (omega (arith, s.slot_in))
+after-in (d ∷ ds) zero first end l s g h =
+    let e : nat_lt l (d - 1) ≡ true = grind (arith, nat_tests, s.first_is, s.end_is) in
+    rw e (omega (arith, s.first_is, s.end_is))
+after-in (d ∷ ds) (suc slot) first end l s g h =
+    let e : nat_lt l (d - 1) ≡ false = grind (arith, nat_tests, s.first_is, s.end_is) in
+    let i : after ds (l - (d - 1)) ≡ end - (d - 1) = after-in ds slot (first - (d - 1)) (end - (d - 1)) (l - (d - 1)) (slot-tail d ds slot first end s) (omega arith) (omega (arith, s.first_is)) in
+    rw (e, i) (omega (arith, s.first_is, s.end_is))
+
+-- before a slot, it is at most the slot's first level
+pub after-before : (ds : List ℕ) (slot first end l : ℕ) → IsSlot ds slot first end → l < first → after ds l ≤ first
+after-before [] slot first end l s h = absurd (omega (arith, s.slot_in))
+after-before (d ∷ ds) zero first end l s h = absurd (omega (arith, s.first_is))
+after-before (d ∷ ds) (suc slot) first end l s h = go (nat_lt l (d - 1)) refl (after-before ds slot (first - (d - 1)) (end - (d - 1)) (l - (d - 1)) (slot-tail d ds slot first end s))
+  where
+    go : (b : Bool) → nat_lt l (d - 1) ≡ b → (l - (d - 1) < first - (d - 1) → after ds (l - (d - 1)) ≤ first - (d - 1)) → cond b (d - 1) ((d - 1) + after ds (l - (d - 1))) ≤ first
+    go true e i = omega (arith, s.first_is)
+    go false e i =
+        let q : d - 1 ≤ l = grind (arith, nat_tests) in
+        let j : after ds (l - (d - 1)) ≤ first - (d - 1) = i (omega arith) in
+        omega (arith, s.first_is)
+
+-- of a slot's levels its first one alone tests a first value
+pub first-in : (ds : List ℕ) (slot first end l : ℕ) → IsSlot ds slot first end → first ≤ l → l < end → is_first ds l ≡ true → l ≡ first
+first-in [] slot first end l s g h f = absurd (omega (arith, s.slot_in))
+first-in (d ∷ ds) zero first end l s g h f =
+    let e : nat_lt l (d - 1) ≡ true = grind (arith, nat_tests, s.first_is, s.end_is) in
+    let q : (l == 0) ≡ true = rw e at f in
+    let z : l ≡ 0 = (Decides-eqb l 0).0 q in
+    omega (arith, s.first_is)
+first-in (d ∷ ds) (suc slot) first end l s g h f =
+    let e : nat_lt l (d - 1) ≡ false = grind (arith, nat_tests, s.first_is, s.end_is) in
+    let q : is_first ds (l - (d - 1)) ≡ true = rw e at f in
+    let i : l - (d - 1) ≡ first - (d - 1) = first-in ds slot (first - (d - 1)) (end - (d - 1)) (l - (d - 1)) (slot-tail d ds slot first end s) (omega arith) (omega (arith, s.first_is)) q in
+    omega (arith, s.first_is)
+
+-- inside the slot, a point with the slot at a value passes the test of that value alone
+pub passes-in : (ds : List ℕ) (slot first end l value : ℕ) (p : List ℕ) → IsSlot ds slot first end → first ≤ l → l < end → InRange ds p → passes ds l (set p slot value) ≡ (value == l - first)
+passes-in [] slot first end l value p s g h i = absurd (omega (arith, s.slot_in))
+passes-in (d ∷ ds) slot first end l value [] s g h i = absurd i
+passes-in (d ∷ ds) zero first end l value (x ∷ p) s g h i =
+    let e : nat_lt l (d - 1) ≡ true = grind (arith, nat_tests, s.first_is, s.end_is) in
+    let q : l - first ≡ l = omega (arith, s.first_is) in
+    rw (e, q) refl
+passes-in (d ∷ ds) (suc slot) first end l value (x ∷ p) s g h i =
+    let e : nat_lt l (d - 1) ≡ false = grind (arith, nat_tests, s.first_is, s.end_is) in
+    let q : (l - (d - 1)) - (first - (d - 1)) ≡ l - first = omega (arith, s.first_is) in
+    let r : passes ds (l - (d - 1)) (set p slot value) ≡ (value == (l - (d - 1)) - (first - (d - 1))) = passes-in ds slot (first - (d - 1)) (end - (d - 1)) (l - (d - 1)) value p (slot-tail d ds slot first end s) (omega arith) (omega (arith, s.first_is)) i.1 in
+    rw e (r ∙ ap (λ v. value == v) q)
+
+-- outside the slot it passes what it passed
+pub passes-before : (ds : List ℕ) (slot first end l value : ℕ) (p : List ℕ) → IsSlot ds slot first end → l < first → passes ds l (set p slot value) ≡ passes ds l p
+passes-before [] slot first end l value p s h = refl
+passes-before (d ∷ ds) slot first end l value [] s h = refl
+passes-before (d ∷ ds) zero first end l value (x ∷ p) s h = absurd (omega (arith, s.first_is))
+passes-before (d ∷ ds) (suc slot) first end l value (x ∷ p) s h =
+    go (nat_lt l (d - 1)) refl (passes-before ds slot (first - (d - 1)) (end - (d - 1)) (l - (d - 1)) value p (slot-tail d ds slot first end s))
+  where
+    go : (b : Bool) → nat_lt l (d - 1) ≡ b → (l - (d - 1) < first - (d - 1) → passes ds (l - (d - 1)) (set p slot value) ≡ passes ds (l - (d - 1)) p)
+        → cond b (x == l) (passes ds (l - (d - 1)) (set p slot value)) ≡ cond b (x == l) (passes ds (l - (d - 1)) p)
+    go true e i = refl
+    go false e i =
+        let q : d - 1 ≤ l = grind (arith, nat_tests) in
+        i (omega arith)
+
+pub passes-past : (ds : List ℕ) (slot first end l value : ℕ) (p : List ℕ) → IsSlot ds slot first end → end ≤ l → passes ds l (set p slot value) ≡ passes ds l p
+passes-past [] slot first end l value p s h = refl
+passes-past (d ∷ ds) slot first end l value [] s h = refl
+passes-past (d ∷ ds) zero first end l value (x ∷ p) s h =
+    let e : nat_lt l (d - 1) ≡ false = grind (arith, nat_tests, s.first_is, s.end_is) in
+    rw e refl
+passes-past (d ∷ ds) (suc slot) first end l value (x ∷ p) s h =
+    let e : nat_lt l (d - 1) ≡ false = grind (arith, nat_tests, s.first_is, s.end_is) in
+    rw e (passes-past ds slot (first - (d - 1)) (end - (d - 1)) (l - (d - 1)) value p (slot-tail d ds slot first end s) (omega (arith, s.first_is, s.end_is)))

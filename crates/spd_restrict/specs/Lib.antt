@@ -1,0 +1,2 @@
+pub mod Primed
+pub mod Restricted

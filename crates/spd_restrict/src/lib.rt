@@ -1,0 +1,11 @@
+//! A diagram with a variable's value held fixed, with its plain names primed, and chosen by a variable's value.
+#![tactic(auto)]
+
+pub mod fixed;
+pub mod next;
+
+pub use fixed::cofactor;
+pub use next::prime;
+
+#[cfg(test)]
+mod tests;

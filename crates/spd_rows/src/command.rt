@@ -1,0 +1,89 @@
+//! A command over memory.
+ghost use Rattle.std.specs.Prelude.{◌≡◌, ◌≤◌};
+
+use spd_edge::{MemIn, MemOut, MemPlace};
+use spd_model::Word;
+use spd_solver::{Status, number, solve_run, write_message};
+use sqlite_items::Items;
+use std::alloc::AllocError;
+
+/// What a command came to: its exit status, its message, and what its output took.
+#[derive(Drop)]
+pub struct Answer {
+    pub number: u8,
+    pub message: Vec<u8>,
+    pub output: Vec<u8>,
+}
+
+/// What lies outside a command: the file under the name `m`, and the output. Calls are numbered from 0.
+#[derive(Clone, Copy)]
+pub struct Outside<'a> {
+    pub file: &'a [u8],
+    /// The most bytes that a read gives and a write takes.
+    pub most: usize,
+    /// The most bytes that the output takes in all.
+    pub room: usize,
+    /// The reads that fail.
+    pub failing_reads: &'a [u64],
+    /// The writes that fail.
+    pub failing_writes: &'a [u64],
+}
+
+impl<'a> Outside<'a> {
+    /// An outside where no call fails. Reads and writes take at most `most` bytes a call.
+    pub fn calm(file: &'a [u8], most: usize) -> Self
+        ensures { result.most ≡ most }
+    {
+        Outside {
+            file,
+            most,
+            room: 10_000,
+            failing_reads: &[],
+            failing_writes: &[],
+        }
+    }
+}
+
+/// Words from their texts.
+pub fn words<R: AllocGlobal>(rt: &R, texts: &[&[u8]]) -> Result<Vec<Word>, AllocError> {
+    let mut words = Vec::new(rt.alloc());
+    for text in texts {
+        words.push(Items::from_slice(rt.alloc(), text)?)?;
+    }
+    Ok(words)
+}
+
+/// The message of a status, as far as it fits into 1,000 bytes.
+fn message<R: AllocGlobal>(rt: &R, status: &Status) -> Result<Vec<u8>, AllocError> {
+    let mut errors = MemOut::new(rt.alloc(), 1000, 7, Vec::new(rt.alloc()))?;
+    let _ = write_message(status, &mut errors);
+    errors.taken().to_vec(rt.alloc())
+}
+
+/// What these words come to.
+pub fn run<R: AllocGlobal>(
+    rt: &R,
+    texts: &[&[u8]],
+    outside: Outside<'_>,
+) -> Result<Answer, AllocError>
+    requires { 1 ≤ outside.most }
+{
+    let words = words(rt, texts)?;
+    let file = outside.file.to_vec(rt.alloc())?;
+    let failing_reads = outside.failing_reads.to_vec(rt.alloc())?;
+    let failing_writes = outside.failing_writes.to_vec(rt.alloc())?;
+    let mut place = MemPlace::new(rt.alloc());
+    place.put_in(b"m", MemIn::new(file, outside.most, failing_reads))?;
+    let mut out = MemOut::new(rt.alloc(), outside.room, outside.most, failing_writes)?;
+    let status = solve_run(rt.alloc(), &words, &mut place, &mut out);
+    Ok(Answer {
+        number: number(&status),
+        message: message(rt, &status)?,
+        output: out.taken().to_vec(rt.alloc())?,
+    })
+}
+
+/// What `solve m` comes to for this file.
+pub fn solve<R: AllocGlobal>(rt: &R, file: &[u8]) -> Result<Answer, AllocError> {
+    run(rt, &[b"solve", b"m"], Outside::calm(file, 4096))
+}

@@ -1,0 +1,13 @@
+//! Tests that cross crates: model files in, result texts, statuses and messages out.
+#![tactic(auto)]
+
+#[cfg(test)]
+mod command;
+#[cfg(test)]
+mod files;
+#[cfg(test)]
+mod outside;
+#[cfg(test)]
+mod refused;
+#[cfg(test)]
+mod solved;
