@@ -20,3 +20,4 @@ pub mod SmallLawful
 pub mod SmallReadLaws
 pub mod SmallTreesAgain
 pub mod SmallFilesAgain
+mod SmallRows

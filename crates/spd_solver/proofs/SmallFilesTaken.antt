@@ -1,6 +1,6 @@
 -- What is read as a file means the process that is given.
-use Rattle.std.proofs.Common.{◌≡◌, ℕ, zero, suc, ◌+◌, ◌-◌, ◌<◌, ◌≤◌, Bool, true, false, cond, eqb, ltb, ◌||◌, List, [], ◌∷◌, ◌++◌, length, map, Option, Some, None, ℤ, pos, refl, sym, ap, subst, ◌∙◌, arith, append_assoc}
-use Rattle.std.specs.Prelude.{not, codes, is_some, All, IsTrue}
+use Rattle.std.proofs.Common.{◌≡◌, ℕ, zero, suc, ◌<◌, ◌≤◌, Bool, true, false, cond, eqb, ltb, ◌||◌, List, [], ◌∷◌, ◌++◌, length, map, Option, Some, None, pos, refl, sym, ap, subst, ◌∙◌, arith, append_assoc}
+use Rattle.std.specs.Prelude.{not, codes, All, IsTrue}
 use Rattle.std.specs.List.{list_all, flat_map}
 use Rattle.std.specs.Str.{bytes_eq}
 use Rattle.std.proofs.lemmas.Bool.{ltb-true, ltb-false, eqb-true}
@@ -14,7 +14,6 @@ use Rattle.spd_model.specs.Process.{Process}
 use Rattle.spd_model.specs.declared.tree.Tree.{Tree}
 use Rattle.spd_model.specs.declared.process.Var.{Var}
 use Rattle.spd_model.specs.declared.process.Action.{Action}
-use Rattle.spd_solver.specs.declared.small.trees.Role.{Role}
 use Rattle.spd_solver.specs.declared.small.trees.Role.TheVariants.{Table, Reward}
 use Rattle.spd_solver.specs.SmallToken.{Token, opening, closing, word}
 use Rattle.spd_solver.specs.SmallSyntax.{Shape, ActionText, FileText, tokens_of_tree, tokens_of_action, tokens_of_file}

@@ -1,13 +1,11 @@
 -- A file that is read gives a lawful process.
-use Rattle.std.proofs.Common.{◌≡◌, ℕ, zero, suc, ◌+◌, ◌-◌, ◌^◌, ◌<◌, ◌≤◌, Bool, true, false, cond, eqb, List, [], ◌∷◌, ◌++◌, length, get_or, map, Option, Some, None, ℤ, pos, refl, sym, ap, subst, ◌∙◌, arith}
-use Rattle.std.specs.Prelude.{All, codes, IsTrue, slice_index, slice_index_or, ◌≤ℤ◌}
+use Rattle.std.proofs.Common.{◌≡◌, ℕ, zero, suc, ◌^◌, ◌<◌, ◌≤◌, Bool, true, false, cond, eqb, List, [], ◌∷◌, length, map, Option, Some, None, refl, sym, subst, arith}
+use Rattle.std.specs.Prelude.{All, codes, IsTrue, slice_index_or}
 use Rattle.std.proofs.lemmas.Int.{ints}
 use Rattle.std.proofs.lemmas.Option.{same_Some}
 use Rattle.spd_model.specs.Names.{is_name}
-use Rattle.spd_model.specs.Lawful.{AreDistinct, HasValues, Fits, FitsTable, FitsReward, IsTree, IsTable, IsReward, AreRewards, IsAction, IsLawful}
+use Rattle.spd_model.specs.Lawful.{AreDistinct, HasValues, Fits, IsTree, IsTable, IsReward, AreRewards, IsAction, IsLawful}
 use Rattle.spd_model.specs.Process.{Process}
-use Rattle.spd_model.specs.States.{sizes}
-use Rattle.spd_model.specs.Trees.{parts_of, nesting_of}
 use Rattle.spd_model.specs.declared.tree.Tree.{Tree}
 use Rattle.spd_model.specs.declared.process.Var.{Var}
 use Rattle.spd_model.specs.declared.process.Action.{Action}
@@ -17,7 +15,7 @@ use Rattle.spd_solver.specs.SmallToken.{Token}
 use Rattle.spd_solver.specs.SmallReading.{◌>>=◌, opening_at, closing_at, word_at, keyword_at, tree_at, variable_at, action_of, action_at, begins_action, actions_step, actions_at, named_actions_at, settings_at, file_at, are_distinct}
 use Rattle.spd_solver.proofs.SmallSteps.{bind_some, guard_none, guard_some}
 use Rattle.spd_solver.proofs.SmallTreesLawful.{IsNumber-lt, All-none, All-cons, IsFit, tree_fits}
-use Rattle.spd_solver.proofs.SmallFilesTaken.{IsVariable, variable_takes, TookActions, TookSettings, action_of_takes, named_actions_take, settings_take, process}
+use Rattle.spd_solver.proofs.SmallFilesTaken.{IsVariable, variable_takes, action_of_takes, named_actions_take, settings_take, process}
 
 -- a list of one
 All-one : {X : Type 0} (P : X → Type 0) (x : X) → P x → All P (x ∷ [])

@@ -1,5 +1,5 @@
 -- What reading gives, seen by the bytes.
-use Rattle.std.proofs.Common.{◌≡◌, ℕ, List, Option, Some, None, Result, Ok, Err, refl, sym, ap, subst, ◌∙◌}
+use Rattle.std.proofs.Common.{◌≡◌, ℕ, List, Some, Result, Ok, Err, sym, ap, ◌∙◌}
 use Rattle.std.specs.Prelude.{IfOk, IsErrOf}
 use Rattle.spd_model.specs.Process.{Process}
 use Rattle.spd_solver.specs.declared.small.unread.Unread.{Unread}

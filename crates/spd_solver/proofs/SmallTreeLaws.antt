@@ -1,21 +1,14 @@
 -- What is read as a tree means it, and what means a tree is read as it.
-use Rattle.std.proofs.Common.{◌≡◌, ℕ, zero, suc, ◌+◌, ◌-◌, ◌<◌, ◌≤◌, Bool, true, false, cond, ◌||◌, ◌&&◌, List, [], ◌∷◌, ◌++◌, length, get_or, replicate, Option, Some, None, pos, refl, sym, ap, subst, ◌∙◌, arith, append_assoc, length-append, inl, inr, ◌⊎◌}
-use Rattle.std.specs.Prelude.{not, slice_get, slice_set}
-use Rattle.std.specs.List.{list_any, position}
+use Rattle.std.proofs.Common.{◌≡◌, ℕ, zero, suc, ◌<◌, Bool, true, false, cond, List, [], ◌∷◌, ◌++◌, length, get_or, Some, None, refl, sym, ap, ◌∙◌, arith, length-append, inl, inr, ◌⊎◌}
+use Rattle.std.specs.Prelude.{slice_get, slice_set}
 use Rattle.std.specs.Str.{bytes_eq}
 use Rattle.std.proofs.lemmas.List.Quantifiers.{position-Some}
-use Rattle.std.proofs.lemmas.Slice.Eq.{bytes_eq-Decides}
-use Rattle.spd_model.specs.declared.tree.Tree.{Tree, Leaf, Branch}
 use Rattle.spd_model.specs.declared.process.Var.{Var}
-use Rattle.spd_model.specs.Lawful.{AreDistinct}
 use Rattle.spd_solver.specs.declared.small.trees.Role.{Role}
 use Rattle.spd_solver.specs.declared.small.trees.Role.TheVariants.{Table, Reward}
-use Rattle.spd_solver.specs.SmallToken.{Token, opening, closing, word}
-use Rattle.spd_solver.specs.SmallSyntax.{Shape, number, choice, Branches, none, branch, tokens_of_tree, tokens_of_branches}
-use Rattle.spd_solver.specs.Small.{IsNumber, most_digits, IsHead, value_number, named, MeansTree, MeansKids}
-use Rattle.spd_solver.specs.SmallReading.{◌>>=◌, number_of, head_of, branch_at, fill_step, filled, branches_at, all_of, inside_at, leaf_at, tree_step, tree_at, are_distinct}
-use Rattle.spd_solver.proofs.SmallSteps.{bind_some, guard_some, same_bytes, bytes_same, opening_takes, closing_takes, word_takes, opening_again, closing_again, word_again}
-use Rattle.spd_solver.proofs.SmallNumberLaws.{number_takes, number_again}
+use Rattle.spd_solver.specs.Small.{IsHead, value_number}
+use Rattle.spd_solver.specs.SmallReading.{head_of}
+use Rattle.spd_solver.proofs.SmallSteps.{same_bytes, bytes_same}
 
 -- ---- places of a list
 

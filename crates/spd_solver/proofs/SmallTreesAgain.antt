@@ -1,9 +1,6 @@
 -- What means a tree is read as it.
-use Rattle.std.proofs.Common.{◌≡◌, ◌≢◌, ℕ, zero, suc, ◌+◌, ◌<◌, ◌≤◌, Bool, true, false, cond, ◌||◌, ◌&&◌, List, [], ◌∷◌, ◌++◌, length, get_or, replicate, Option, Some, None, pos, refl, sym, ap, subst, ◌∙◌, arith, append_assoc, inl, inr, ◌⊎◌}
-use Rattle.std.specs.Prelude.{not, slice_get, slice_set}
-use Rattle.std.specs.List.{list_any}
-use Rattle.std.specs.Str.{bytes_eq}
-use Rattle.std.proofs.lemmas.List.{length-replicate}
+use Rattle.std.proofs.Common.{◌≡◌, ◌≢◌, ℕ, zero, suc, ◌+◌, ◌<◌, Bool, List, [], ◌∷◌, ◌++◌, length, get_or, replicate, Option, Some, None, pos, refl, sym, ap, subst, ◌∙◌, arith, append_assoc}
+use Rattle.std.specs.Prelude.{slice_get, slice_set}
 use Rattle.std.proofs.lemmas.Option.{same_Some}
 use Rattle.spd_model.specs.declared.tree.Tree.{Tree, Leaf, Branch}
 use Rattle.spd_model.specs.declared.process.Var.{Var}
@@ -12,7 +9,7 @@ use Rattle.spd_solver.specs.declared.small.trees.Role.{Role}
 use Rattle.spd_solver.specs.SmallToken.{Token, opening, closing, word}
 use Rattle.spd_solver.specs.SmallSyntax.{Shape, number, choice, Branches, none, branch, tokens_of_tree, tokens_of_branches}
 use Rattle.spd_solver.specs.Small.{IsNumber, most_digits, IsHead, value_number, named, MeansTree, MeansKids}
-use Rattle.spd_solver.specs.SmallReading.{◌>>=◌, opening_at, closing_at, word_at, number_of, head_of, branch_at, fill_step, filled, branches_at, all_of, inside_at, leaf_at, tree_step, tree_at}
+use Rattle.spd_solver.specs.SmallReading.{◌>>=◌, closing_at, word_at, branch_at, fill_step, filled, branches_at, all_of, inside_at, leaf_at, tree_step, tree_at}
 use Rattle.spd_solver.proofs.SmallSteps.{opening_again, closing_again, word_again}
 use Rattle.spd_solver.proofs.SmallNumberLaws.{number_again}
 use Rattle.spd_solver.proofs.SmallTreeLaws.{set_there, same_text, value_within, head_again}

@@ -1,5 +1,5 @@
 -- What is read as a tree means it.
-use Rattle.std.proofs.Common.{◌≡◌, ◌≢◌, ℕ, zero, suc, ◌+◌, ◌<◌, ◌≤◌, Bool, true, false, cond, ◌||◌, ◌&&◌, List, [], ◌∷◌, ◌++◌, length, get_or, replicate, Option, Some, None, pos, refl, sym, ap, subst, ◌∙◌, arith, append_assoc, inl, inr, ◌⊎◌}
+use Rattle.std.proofs.Common.{◌≡◌, ℕ, zero, suc, ◌<◌, Bool, true, false, ◌||◌, ◌&&◌, List, [], ◌∷◌, ◌++◌, length, get_or, replicate, Option, Some, None, pos, refl, sym, ap, subst, ◌∙◌, arith, append_assoc}
 use Rattle.std.specs.Prelude.{not, slice_get, slice_set}
 use Rattle.std.specs.List.{list_any}
 use Rattle.std.specs.Str.{bytes_eq}
@@ -11,11 +11,11 @@ use Rattle.spd_model.specs.Lawful.{AreDistinct}
 use Rattle.spd_solver.specs.declared.small.trees.Role.{Role}
 use Rattle.spd_solver.specs.SmallToken.{Token, opening, closing, word}
 use Rattle.spd_solver.specs.SmallSyntax.{Shape, number, choice, Branches, none, branch, tokens_of_tree, tokens_of_branches}
-use Rattle.spd_solver.specs.Small.{IsNumber, most_digits, IsHead, value_number, named, MeansTree, MeansKids}
+use Rattle.spd_solver.specs.Small.{most_digits, value_number, named, MeansTree, MeansKids}
 use Rattle.spd_solver.specs.SmallReading.{◌>>=◌, opening_at, closing_at, word_at, number_of, head_of, branch_at, fill_step, filled, branches_at, all_of, inside_at, leaf_at, tree_step, tree_at, are_distinct}
 use Rattle.spd_solver.proofs.SmallSteps.{bind_some, neither, not_true, same_bytes, opening_takes, closing_takes, word_takes}
 use Rattle.spd_solver.proofs.SmallNumberLaws.{number_takes, both}
-use Rattle.spd_solver.proofs.SmallTreeLaws.{set_here, set_there, length_set, same_or_not, same_text, head_takes}
+use Rattle.spd_solver.proofs.SmallTreeLaws.{set_here, set_there, length_set, head_takes}
 
 -- ---- texts that differ
 

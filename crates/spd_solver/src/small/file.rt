@@ -62,7 +62,8 @@ fn are_value_names(names: &[Name]) -> bool
 
 /// The words that stand next, at most 64, and the bytes after them.
 fn words(alloc: Global, bytes: &[u8]) -> Result<(Items<Name>, &[u8]), Unread>
-    ensures { Gives (λ x. (x.0, tokens_of x.1.now)) result (Some (words_at 64 (tokens_of bytes.now))) }
+    ensures { Gives (λ x. (x.0, tokens_of x.1.now)) result
+        (Some (words_at 64 (tokens_of bytes.now))) }
 {
     let mut words = Items::new(alloc);
     let mut rest = bytes;
@@ -127,7 +128,8 @@ fn action_of(
 /// An action over the variable, and the bytes after it.
 #[tactic(auto, unfolding(crate::specs::SmallReading::action_at))]
 fn action<'b>(alloc: Global, var: &Var, bytes: &'b [u8]) -> Result<(Action, &'b [u8]), Unread>
-    ensures { Gives (λ x. (x.0, tokens_of x.1.now)) result (action_at var.now (tokens_of bytes.now)) }
+    ensures { Gives (λ x. (x.0, tokens_of x.1.now)) result
+        (action_at var.now (tokens_of bytes.now)) }
 {
     let inside = keyword(b"action", bytes)?;
     let (name, rest) = word(inside)?;
@@ -155,7 +157,8 @@ fn actions<'b>(
     var: &Var,
     bytes: &'b [u8],
 ) -> Result<(Items<Action>, &'b [u8]), Unread>
-    ensures { Gives (λ x. (x.0, tokens_of x.1.now)) result (actions_at var.now 64 (tokens_of bytes.now)) }
+    ensures { Gives (λ x. (x.0, tokens_of x.1.now)) result
+        (actions_at var.now 64 (tokens_of bytes.now)) }
 {
     let mut actions = Items::new(alloc);
     let mut rest = bytes;
@@ -172,7 +175,8 @@ fn actions<'b>(
 
 /// Whether no two of the actions have the same name.
 fn have_distinct_names(alloc: Global, actions: &Items<Action>) -> Result<bool, AllocError>
-    ensures { IfOk result (λ distinct. distinct ≡ are_distinct (map (λ (a : ActionValue). a.name) actions.now)) }
+    ensures { IfOk result
+        (λ distinct. distinct ≡ are_distinct (map (λ (a : ActionValue). a.name) actions.now)) }
 {
     let mut names = Vec::new(alloc);
     for action in actions.as_slice() {
@@ -188,7 +192,8 @@ fn named_actions<'b>(
     var: &Var,
     bytes: &'b [u8],
 ) -> Result<(Items<Action>, &'b [u8]), Unread>
-    ensures { Gives (λ x. (x.0, tokens_of x.1.now)) result (named_actions_at var.now (tokens_of bytes.now)) }
+    ensures { Gives (λ x. (x.0, tokens_of x.1.now)) result
+        (named_actions_at var.now (tokens_of bytes.now)) }
 {
     let (actions, after) = actions(alloc, var, bytes)?;
     if actions.as_slice().is_empty() {

@@ -50,7 +50,8 @@ fn word_len(bytes: &[u8]) -> usize
 
 /// The first token and the bytes after it, or nothing where no token is left.
 pub(crate) fn token_at(bytes: &[u8]) -> Option<(Token<'_>, &[u8])>
-    ensures { MatchOption result (tokens_of bytes.now ≡ []) (λ found. tokens_of bytes.now ≡ seen found.0 ∷ tokens_of found.1.now) }
+    ensures { MatchOption result (tokens_of bytes.now ≡ [])
+        (λ found. tokens_of bytes.now ≡ seen found.0 ∷ tokens_of found.1.now) }
 {
     let rest = skip_blanks(bytes);
     let [first, after @ ..] = rest else {
@@ -126,7 +127,8 @@ pub(crate) fn after_keyword<'a>(keyword: &[u8], bytes: &'a [u8]) -> Option<&'a [
 
 /// The bytes after this word.
 pub(crate) fn keyword<'a>(keyword: &[u8], bytes: &'a [u8]) -> Result<&'a [u8], Unread>
-    ensures { Gives (λ rest. tokens_of rest.now) result (keyword_at keyword.now (tokens_of bytes.now)) }
+    ensures { Gives (λ rest. tokens_of rest.now) result
+        (keyword_at keyword.now (tokens_of bytes.now)) }
 {
     after_keyword(keyword, bytes).ok_or(Unread::Refused)
 }

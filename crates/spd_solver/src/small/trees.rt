@@ -67,7 +67,8 @@ fn value(var: &Var, word: &[u8]) -> Result<usize, Unread>
 
 #[tactic(auto, unfolding(crate::specs::SmallReading::leaf_at))]
 fn leaf<'b>(role: Role, head: &[u8], rest: &'b [u8]) -> Result<(Tree, &'b [u8]), Unread>
-    ensures { Gives (λ x. (x.0, tokens_of x.1.now)) result (leaf_at role head.now (tokens_of rest.now)) }
+    ensures { Gives (λ x. (x.0, tokens_of x.1.now)) result
+        (leaf_at role head.now (tokens_of rest.now)) }
 {
     let most = match role {
         Role::Table => 12,
@@ -129,7 +130,8 @@ impl TreeReader<'_> {
     #[cycle(nest)]
     #[tactic(auto, unfolding(crate::specs::SmallReading::tree_at))]
     pub(crate) fn tree<'b>(&self, depth: u32, bytes: &'b [u8]) -> Result<(Tree, &'b [u8]), Unread>
-        ensures { Gives (λ x. (x.0, tokens_of x.1.now)) result (tree_at self.now.role self.now.var.now depth (tokens_of bytes.now)) }
+        ensures { Gives (λ x. (x.0, tokens_of x.1.now)) result
+            (tree_at self.now.role self.now.var.now depth (tokens_of bytes.now)) }
     {
         if depth == 0 {
             return Err(Unread::Refused);
@@ -151,7 +153,9 @@ impl TreeReader<'_> {
         text: &[u8],
         bytes: &'b [u8],
     ) -> Result<(Tree, &'b [u8]), Unread>
-        ensures { Gives (λ x. (x.0, tokens_of x.1.now)) result (inside_at (tree_at self.now.role self.now.var.now depth) self.now.role self.now.var.now text.now (tokens_of bytes.now)) }
+        ensures { Gives (λ x. (x.0, tokens_of x.1.now)) result
+            (inside_at (tree_at self.now.role self.now.var.now depth) self.now.role self.now.var.now
+            text.now (tokens_of bytes.now)) }
     {
         let primed = head(self.role, self.var, text)?;
         let (slots, rest) = self.branches(depth, bytes)?;
@@ -174,7 +178,10 @@ impl TreeReader<'_> {
         depth: u32,
         bytes: &'b [u8],
     ) -> Result<(Vec<Option<Tree>>, &'b [u8]), Unread>
-        ensures { Gives (λ x. (x.0.items, tokens_of x.1.now)) result (branches_at (tree_at self.now.role self.now.var.now depth) self.now.var.now (length self.now.var.now.values) (replicate (length self.now.var.now.values) None) (tokens_of bytes.now)) }
+        ensures { Gives (λ x. (x.0.items, tokens_of x.1.now)) result
+            (branches_at (tree_at self.now.role self.now.var.now depth) self.now.var.now
+            (length self.now.var.now.values) (replicate (length self.now.var.now.values) None)
+            (tokens_of bytes.now)) }
     {
         let count = self.var.values.len();
         let mut slots = free_slots(self.alloc, count)?;
@@ -191,7 +198,8 @@ impl TreeReader<'_> {
     #[cycle(nest)]
     #[tactic(auto, unfolding(crate::specs::SmallReading::branch_at))]
     fn branch<'b>(&self, depth: u32, bytes: &'b [u8]) -> Result<(usize, Tree, &'b [u8]), Unread>
-        ensures { Gives (λ x. (x.0, x.1, tokens_of x.2.now)) result (branch_at (tree_at self.now.role self.now.var.now depth) self.now.var.now (tokens_of bytes.now)) }
+        ensures { Gives (λ x. (x.0, x.1, tokens_of x.2.now)) result
+            (branch_at (tree_at self.now.role self.now.var.now depth) self.now.var.now (tokens_of bytes.now)) }
     {
         let inside = open(bytes)?;
         let (text, rest) = word(inside)?;

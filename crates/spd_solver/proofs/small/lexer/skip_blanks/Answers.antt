@@ -1,4 +1,4 @@
-use Rattle.std.proofs.Common.{◌<◌, length, sym, ◌∙◌, arith}
+use Rattle.std.proofs.Common.{sym, ◌∙◌, arith}
 use Rattle.spd_solver.proofs.SmallTokens.{tokens_of-blank}
 use Rattle.spd_solver.proofs.small.lexer.skip_blanks.Goals as goal
 

@@ -1,7 +1,6 @@
-use Rattle.std.proofs.Common.{◌≡◌, ◌<◌, false, true, length, get_or, sym, ◌∙◌, arith}
-use Rattle.std.specs.List.{prefix_len}
+use Rattle.std.proofs.Common.{◌≡◌, get_or, sym, ◌∙◌, arith}
 use Rattle.std.proofs.lemmas.List.Sums.{prefix_len-le-length}
-use Rattle.spd_solver.specs.SmallToken.{is_word_byte, begins_word}
+use Rattle.spd_solver.specs.SmallToken.{is_word_byte}
 use Rattle.spd_solver.proofs.SmallTokens.{tokens_of-none, tokens_of-opening, tokens_of-closing, begins_word-from_others, tokens_of-word}
 use Rattle.spd_solver.proofs.small.lexer.token_at.Goals as goal
 

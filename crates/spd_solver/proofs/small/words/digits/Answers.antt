@@ -1,5 +1,5 @@
-use Rattle.std.proofs.Common.{◌<◌, ◌^◌, ◌≤◌, sym, ◌∙◌, arith}
-use Rattle.spd_solver.proofs.SmallNumbers.{Wrote-more, ten_to, digit_is}
+use Rattle.std.proofs.Common.{sym, ◌∙◌, arith}
+use Rattle.spd_solver.proofs.SmallNumbers.{Wrote-more, ten_to}
 use Rattle.spd_solver.proofs.small.words.digits.Goals as goal
 
 pub overflow_mul-value : goal.overflow_mul-value

@@ -1,4 +1,4 @@
-use Rattle.std.proofs.Common.{◌≡◌, ◌+◌, ◌-◌, ◌*◌, ◌^◌, ◌<◌, ◌≤◌, length, arith}
+use Rattle.std.proofs.Common.{◌≡◌, ◌-◌, ◌^◌, length, arith}
 use Rattle.spd_solver.proofs.SmallNumbers.{units_bound}
 use Rattle.spd_solver.proofs.small.words.number.Goals as goal
 

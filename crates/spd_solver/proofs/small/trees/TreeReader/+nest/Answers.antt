@@ -1,4 +1,4 @@
-use Rattle.std.proofs.Common.{◌≡◌, ◌-◌, ◌+◌, length, replicate, None, arith}
+use Rattle.std.proofs.Common.{length, replicate, None, arith}
 use Rattle.std.proofs.lemmas.Result.{err_from_is_err_and}
 use Rattle.spd_solver.specs.SmallToken.{tokens_of}
 use Rattle.spd_solver.specs.SmallReading.{branches_at, tree_at}
