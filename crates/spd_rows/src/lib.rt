@@ -6,6 +6,8 @@ mod command;
 #[cfg(test)]
 mod files;
 #[cfg(test)]
+mod limits;
+#[cfg(test)]
 mod outside;
 #[cfg(test)]
 mod refused;
