@@ -61,6 +61,9 @@ succeeds "standard input through a pipe" "$result" 'cat model | spudd solve -'
 
 fails "a missing file" 3 "cannot open missing" 'spudd solve missing'
 fails "a missing folder" 3 "cannot open missing/model" 'spudd solve missing/model'
+fails "a name that isn't UTF-8" 3 "cannot open $(printf '\377')" 'spudd solve "$(printf "\\377")"'
+long=$(printf '%0300d' 0)
+fails "a name of 300 bytes" 3 "cannot open $long" 'spudd solve "$long"'
 fails "a folder in place of a file" 3 "cannot read folder" 'spudd solve folder'
 fails "a folder as standard input" 3 "cannot read -" 'spudd solve - <folder'
 fails "a closed standard input" 3 "cannot read -" 'spudd solve - <&-'
@@ -84,6 +87,7 @@ fails "no file" 2 "usage: word 1" 'spudd solve'
 fails "an empty name" 2 "usage: word 1" 'spudd solve ""'
 fails "a name that begins with a dash" 2 "usage: word 1" 'spudd solve --help'
 fails "a word too many" 2 "usage: word 2" 'spudd solve model more'
+fails "a word too many after a name that isn't UTF-8" 2 "usage: word 2" 'spudd solve "$(printf "\\377")" more'
 fails "a page with a word" 2 "usage: word 0" 'spudd --version more'
 
 echo "spudd 0.1.0" >"$scratch/version"

@@ -1,6 +1,4 @@
 //! A command over memory.
-ghost use Rattle.std.specs.Prelude.{◌≡◌, ◌≤◌};
-
 use spd_edge::{MemIn, MemOut, MemPlace};
 use spd_model::Word;
 use spd_solver::{Status, number, solve_run, write_message};
@@ -19,7 +17,7 @@ pub struct Answer {
 #[derive(Clone, Copy)]
 pub struct Outside<'a> {
     pub file: &'a [u8],
-    /// The most bytes that a read gives and a write takes.
+    /// The most bytes that a read gives and a write takes, where 0 is as 1.
     pub most: usize,
     /// The most bytes that the output takes in all.
     pub room: usize,
@@ -31,9 +29,7 @@ pub struct Outside<'a> {
 
 impl<'a> Outside<'a> {
     /// An outside where no call fails. Reads and writes take at most `most` bytes a call.
-    pub fn calm(file: &'a [u8], most: usize) -> Self
-        ensures { result.most ≡ most }
-    {
+    pub fn calm(file: &'a [u8], most: usize) -> Self {
         Outside {
             file,
             most,
@@ -65,16 +61,15 @@ pub fn run<R: AllocGlobal>(
     rt: &R,
     texts: &[&[u8]],
     outside: Outside<'_>,
-) -> Result<Answer, AllocError>
-    requires { 1 ≤ outside.most }
-{
+) -> Result<Answer, AllocError> {
     let words = words(rt, texts)?;
     let file = outside.file.to_vec(rt.alloc())?;
     let failing_reads = outside.failing_reads.to_vec(rt.alloc())?;
     let failing_writes = outside.failing_writes.to_vec(rt.alloc())?;
+    let most = outside.most.max(1);
     let mut place = MemPlace::new(rt.alloc());
-    place.put_in(b"m", MemIn::new(file, outside.most, failing_reads))?;
-    let mut out = MemOut::new(rt.alloc(), outside.room, outside.most, failing_writes)?;
+    place.put_in(b"m", MemIn::new(file, most, failing_reads))?;
+    let mut out = MemOut::new(rt.alloc(), outside.room, most, failing_writes)?;
     let status = solve_run(rt.alloc(), &words, &mut place, &mut out);
     Ok(Answer {
         number: number(&status),

@@ -1,6 +1,4 @@
 //! An outside where one call fails: the open, a read or a write.
-ghost use Rattle.std.specs.Prelude.{◌≤◌};
-
 use crate::command::{Answer, Outside, run, solve};
 use crate::files::{KEEP, KEEP_RESULT};
 use std::process::Abort;

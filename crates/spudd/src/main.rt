@@ -5,9 +5,9 @@ use spd_edge::{RealPlace, StdErr, StdOut, WriterOut};
 use spd_model::Word;
 use spd_solver::{Status, number, solve_run, write_message};
 use sqlite_items::Items;
-use std::env::Env;
+use std::alloc::AllocError;
+use std::env::{Env, FillError};
 use std::process::ExitCode;
-use std::{env, io};
 
 /// What `--help` prints.
 const HELP: &str = "\
@@ -26,11 +26,29 @@ docs/FORMAT.md explains the model file and the result.
 /// What `--version` prints.
 const VERSION: &str = "spudd 0.1.0\n";
 
+/// The word of this number on the command line, where number 0 is the program's name. `None` past the last word.
+fn word<R: Env + AllocGlobal>(rt: &R, number: usize) -> Result<Option<Word>, AllocError> {
+    let mut buf = Vec::new(rt.alloc());
+    // Room for 64 bytes, then twice as much for as long as the word is longer.
+    for exponent in 6..usize::BITS {
+        buf.resize(1 << exponent, 0)?;
+        match rt.arg(number, &mut buf) {
+            Ok(len) => return Ok(Some(Items::from_slice(rt.alloc(), &buf[..len])?)),
+            Err(FillError::NotPresent) => return Ok(None),
+            Err(FillError::TooLong) => {}
+        }
+    }
+    Err(AllocError)
+}
+
 /// The words of the command line, without the program's name.
-fn words<R: Env + AllocGlobal>(rt: &R) -> io::Result<Vec<Word>> {
+fn words<R: Env + AllocGlobal>(rt: &R) -> Result<Vec<Word>, AllocError> {
     let mut words = Vec::new(rt.alloc());
-    for word in env::args(rt)?.skip(1) {
-        words.push(Items::from_slice(rt.alloc(), word.as_bytes())?)?;
+    for number in 1..usize::MAX {
+        match word(rt, number)? {
+            Some(word) => words.push(word)?,
+            None => break,
+        }
     }
     Ok(words)
 }
@@ -60,9 +78,7 @@ fn main(rt: HostRuntime) -> ExitCode {
             },
             None => run(rt, &words),
         },
-        Err(e) if e.kind() == io::ErrorKind::OutOfMemory => Status::Memory,
-        // The words aren't text.
-        Err(_) => Status::Usage { word: 0 },
+        Err(AllocError) => Status::Memory,
     };
     let mut errors: StdErr = WriterOut::new(rt.stderr());
     // Where the message can't be written, the status stays the same.
