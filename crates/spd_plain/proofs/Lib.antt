@@ -6,7 +6,7 @@ pub mod TreeValues
 pub mod OneVariable
 pub mod Sums
 pub mod Finds
-pub mod Tests
+pub mod BitTests
 pub mod WrongSums
 pub mod RangeOrder
 pub mod GroupSweep
@@ -17,3 +17,4 @@ pub mod Gaps
 pub mod SweepLaws
 pub mod Runs
 pub mod Valid
+pub mod OneState
