@@ -1,14 +1,14 @@
 -- A process of one state, as the tests build it, is lawful.
-use Rattle.std.proofs.Common.{◌≡◌, ℕ, zero, suc, ◌^◌, ◌%◌, ◌<◌, ◌≤◌, List, [], ◌∷◌, length, codes, All, AllPairs, ℤ, pos, ◌≤ℤ◌, unsigned_abs, refl, arith, slice_index_or, IsTrue}
+use Rattle.std.proofs.Common.{◌≡◌, ℕ, zero, suc, ◌^◌, ◌%◌, ◌<◌, ◌≤◌, [], ◌∷◌, codes, All, ℤ, pos, ◌≤ℤ◌, unsigned_abs, refl, arith, slice_index_or, IsTrue}
 use Rattle.std.proofs.lemmas.Int.{ints}
 use Rattle.std.proofs.lemmas.List.Elements.{All-nil, All-cons}
 use Rattle.spd_model.specs.declared.tree.Tree.{Tree, Leaf}
 use Rattle.spd_model.specs.declared.process.Var.{Var}
 use Rattle.spd_model.specs.declared.process.Action.{Action}
 use Rattle.spd_model.specs.Process.{Process}
-use Rattle.spd_model.specs.Trees.{number, parts_of}
+use Rattle.spd_model.specs.Trees.{number}
 use Rattle.spd_model.specs.Names.{is_name, is_value_name}
-use Rattle.spd_model.specs.Lawful.{Fits, FitsTable, FitsReward, HasValues, IsTree, IsTable, IsReward, AreRewards, IsAction, IsLawful}
+use Rattle.spd_model.specs.Lawful.{Fits, FitsTable, FitsReward, HasValues, IsTree, IsTable, IsReward, IsAction, IsLawful}
 
 abbrev pub lamp : Var
 lamp = record { name = codes "lamp"; values = codes "on" ∷ [] }

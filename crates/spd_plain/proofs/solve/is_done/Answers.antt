@@ -1,4 +1,4 @@
-use Rattle.std.proofs.Common.{int_le, sym, ◌∙◌, rules, ◌≡◌, ◌-◌, ◌^◌, ap, pos, ◌*ℤ◌, FitsSigned, to_z, arith, lit<}
+use Rattle.std.proofs.Common.{int_le, sym, ◌∙◌, rules, ◌≡◌, ◌-◌, ◌^◌, ap, pos, ◌*ℤ◌, FitsSigned, arith, lit<}
 use Rattle.std.proofs.lemmas.Int.{ints, to_z-of_z, fits_signed_mul}
 use mir.Syntax.{w128}
 use Rattle.spd_scaled.proofs.Magnitude.{unsigned_abs-le}

@@ -1,9 +1,7 @@
-use Rattle.std.proofs.Common.{◌≡◌, ◌∙◌, [], ◌∷◌, ◌++◌, List, codes, pos, sym, subst, ℤ, to_z, of_z}
+use Rattle.std.proofs.Common.{◌≡◌, ◌∙◌, [], ◌∷◌, ◌++◌, pos, sym, subst}
 use Rattle.std.proofs.lemmas.Int.{to_z-of_z}
 use mir.Syntax.{w128}
-use Rattle.spd_model.specs.declared.tree.Tree.{Tree, Leaf}
-use Rattle.spd_model.specs.declared.process.Var.{Var}
-use Rattle.spd_model.specs.declared.process.Action.{Action}
+use Rattle.spd_model.specs.declared.tree.Tree.{Leaf}
 use Rattle.spd_model.specs.Process.{Process}
 use Rattle.spd_model.specs.Lawful.{IsLawful}
 use Rattle.spd_plain.proofs.OneState.{lamp, stay, one_state, is_lawful}
