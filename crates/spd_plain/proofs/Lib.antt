@@ -9,7 +9,7 @@ pub mod TreeValues
 pub mod OneVariable
 pub mod Sums
 pub mod Finds
-pub mod Tests
+pub mod BitTests
 pub mod WrongSums
 pub mod Limits
 pub mod Rows
@@ -20,3 +20,4 @@ pub mod Valid
 pub mod StopLaws
 pub mod Shapes
 pub mod Invalid
+pub mod OneState

@@ -40,6 +40,7 @@ pub record IsOutlook (outlook : Outlook) : Type 0 where
 abbrev pub value_limit : ℕ
 value_limit = (10 ^ 18 + 1) * 10 ^ 6
 
+-- none of these values passes that magnitude
 pub record AreBounded (values : List ℤ) : Type 0 where
   pub each : (k : ℕ) → IsWithin (pos value_limit) (slice_index_or values k (pos 0))
 

@@ -7,14 +7,9 @@ ghost use Rattle.spd_plain.specs.Outlooks.{AreBounded, AreOutlooks, IsDistributi
 
 use crate::outlook::Outlook;
 use crate::ranges::Bounds;
+use crate::scales::{DISCOUNT_ONE, ONE};
 use spd_model::Side;
 use spd_scaled::{ceil_div, floor_div};
-
-/// One, as a probability.
-const ONE: i128 = 1_000_000_000_000;
-
-/// One, as a discount.
-const WHOLE: i128 = 1_000_000;
 
 /// The sum of the chance of each next value times what `values` has there.
 fn weighted_sum(chances: &[i128], values: &[i128]) -> i128
@@ -43,8 +38,8 @@ fn bounds_of(outlook: &Outlook, discount: u32, values: &[i128]) -> Bounds
     let sum = weighted_sum(outlook.chances.as_slice(), values);
     let discount = discount as i128;
     Bounds {
-        low: outlook.reward + floor_div(discount * floor_div(sum, ONE), WHOLE),
-        high: outlook.reward + ceil_div(discount * ceil_div(sum, ONE), WHOLE),
+        low: outlook.reward + floor_div(discount * floor_div(sum, ONE), DISCOUNT_ONE),
+        high: outlook.reward + ceil_div(discount * ceil_div(sum, ONE), DISCOUNT_ONE),
     }
 }
 

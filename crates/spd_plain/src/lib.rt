@@ -5,9 +5,12 @@ mod backup;
 mod law;
 mod outlook;
 mod ranges;
+mod scales;
 mod solve;
 mod states;
 mod sweep;
+#[cfg(test)]
+mod tests;
 mod validity;
 
 pub use law::{law_bounded, law_stop};

@@ -1,6 +1,6 @@
 //! Value iteration on plain tables.
 
-ghost use Rattle.std.specs.Prelude.{◌≡◌, ◌≤◌, ◌^◌, length, pos, ◌≤ℤ◌, IfOk, IfErr, OnOk};
+ghost use Rattle.std.specs.Prelude.{◌≡◌, ◌-◌, ◌≤◌, ◌^◌, length, pos, ◌≤ℤ◌, ◌<ℤ◌, IfOk, IfErr, OnOk};
 ghost use Rattle.spd_scaled.specs.Scaled.{IsWithin};
 ghost use Rattle.spd_model.specs.Chances.{IsValid};
 ghost use Rattle.spd_model.specs.States.{sizes, at};
@@ -11,6 +11,7 @@ ghost use Rattle.spd_plain.specs.Plain.{plain_of, stop_record, Cause, IsShaped, 
 
 use crate::outlook::{Outlook, tabulate};
 use crate::ranges::merge_ranges;
+use crate::scales::DISCOUNT_ONE;
 use crate::sweep::{Sweep, policy, residual_place, start, sweep_states};
 use crate::validity::{first_wide_reward, first_wrong_sum};
 use spd_model::{Model, Side, State, Why};
@@ -72,15 +73,20 @@ pub struct Stop {
     pub sweep: Sweep,
 }
 
-/// One, as a discount.
-const WHOLE: u32 = 1_000_000;
+/// One minus the discount, in units of 10^-6.
+fn discount_left(model: &Model) -> i128
+    ensures value { result ≡ pos (1000000 - model.now.discount) }
+    ensures positive { pos 0 <ℤ result }
+{
+    DISCOUNT_ONE - model.discount as i128
+}
 
 /// Whether a run stops at a turn with this residual.
 fn is_done(model: &Model, residual: i128) -> bool
     requires { IsWithin (pos (10 ^ 31)) residual }
     ensures { result ≡ stops_at model.now residual }
 {
-    2 * residual * 1_000_000 <= model.tolerance * (WHOLE - model.discount) as i128
+    2 * residual * DISCOUNT_ONE <= model.tolerance * discount_left(model)
 }
 
 /// How far a value with this residual may be from the optimal one, in units of 10^-9, rounded up.
@@ -88,7 +94,7 @@ fn error_of(model: &Model, residual: i128) -> i128
     requires { IsWithin (pos (10 ^ 31)) residual }
     ensures { result ≡ error_of_residual model.now residual }
 {
-    ceil_div(residual * 1_000_000, (WHOLE - model.discount) as i128)
+    ceil_div(residual * DISCOUNT_ONE, discount_left(model))
 }
 
 /// Runs value iteration up to the first turn at which the stop rule holds, and at most to turn `turns`.
@@ -109,6 +115,7 @@ fn run_turns(
     ensures values { IfOk result (λ stop. CanSweep model.now rows.now stop.value.items) }
     ensures sweep { IfOk result (λ stop. IsSweep model.now stop.value.items stop.sweep) }
 {
+    // Reading a field tells the proof what every model keeps.
     let _vars = &model.vars;
     let mut value = start(alloc, model, rows)?;
     for turn in 0..turns {
@@ -156,6 +163,7 @@ fn solve_valid(alloc: Global, model: &Model, turns: u32, span: i128) -> Result<P
     requires span_high { span ≤ℤ pos (10 ^ 30) }
     ensures { IfOk result (λ p. p ≡ plain_of model.now turns span) }
 {
+    // Reading a field tells the proof what every model keeps.
     let _vars = &model.vars;
     let rows = tabulate(alloc, model)?;
     let stop = run_turns(alloc, model, &rows, turns, span)?;
@@ -196,6 +204,7 @@ pub fn plain_solve(
     ensures placed { IfErr result (IsPlaced model.now) }
     ensures invalid { IfErr result (IsInvalid model.now) }
 {
+    // Reading a field tells the proof what every model keeps.
     let _vars = &model.vars;
     if let Some(wrong) = first_wrong_sum(model) {
         return Err(PlainFault::Sum {

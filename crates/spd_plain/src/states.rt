@@ -22,6 +22,7 @@ pub(crate) fn state_at(model: &Model, place: usize) -> State
     ensures value { result ≡ slice_index_or (states (sizes model.now)) place [] }
     ensures state { IsState (sizes model.now) result }
 {
+    // Reading a field tells the proof what every model keeps.
     let _vars = &model.vars;
     State::of(&[place as u8])
 }

@@ -68,6 +68,7 @@ pub(crate) fn start(
     requires rows { rows.now ≡ outlooks_of model.now }
     ensures { IfOk result (λ values. values.items ≡ start_of model.now) }
 {
+    // Reading a field tells the proof what every model keeps.
     let _actions = &model.actions;
     let mut values = Vec::with_capacity(alloc, rows.len())?;
     for row in rows {
@@ -133,6 +134,7 @@ fn first_place_of(model: &Model, values: &[i128], sweep: &Sweep) -> usize
     ensures within { result < state_count_of (sizes model.now) }
     ensures first { slice_index_or (states (sizes model.now)) result [] ≡ state_of_residual model.now (at (sizes model.now) values.now) sweep.now.residual }
 {
+    // Reading a field tells the proof what every model keeps.
     let _vars = &model.vars;
     let ranges = sweep.ranges.as_slice();
     for place in 0..values.len() {

@@ -10,15 +10,10 @@ ghost use Rattle.spd_model.specs.Lawful.{AreRewards};
 ghost use Rattle.spd_model.specs.Chances.{probability, sum_of, reward_of, first_wrong_sum as first_wrong_sum_of, first_wide_reward as first_wide_reward_of};
 ghost use Rattle.spd_plain.specs.Faults.{sum_record, reward_record, wrong_sum_after as wrong_sum_after_of, wide_reward_after as wide_reward_after_of};
 
+use crate::scales::{ONE, REWARD_LIMIT};
 use crate::states::{state_at, state_count};
 use spd_model::{Action, Model, State, Tree};
 use spd_scaled::floor_div;
-
-/// One, as a probability.
-const ONE: i128 = 1_000_000_000_000;
-
-/// The greatest magnitude of a reward, in units of 10^-9.
-const REWARD_LIMIT: u128 = 1_000_000_000_000_000_000;
 
 /// A sum of probabilities that isn't one.
 #[derive(Debug, Drop)]
@@ -48,6 +43,7 @@ pub(crate) fn chance(model: &Model, action: &Action, s: &State, value: usize) ->
     ensures value { result ≡ probability model.now action.now 0 s.now value }
     ensures within { IsWithin (pos (10 ^ 30)) result }
 {
+    // Reading a field tells the proof what every model keeps.
     let _vars = &model.vars;
     let next = State::of(&[value as u8]);
     model.value(&action.tables.as_slice()[0], s, &next)

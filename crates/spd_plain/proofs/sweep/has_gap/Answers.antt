@@ -2,7 +2,7 @@ use Rattle.std.proofs.Common.{rules, ◌∙◌, ◌-ℤ◌, ◌||◌, ap, sym, F
 use Rattle.std.specs.Ordering.{int_eq}
 use Rattle.std.proofs.lemmas.Int.{ints, to_z-of_z}
 use mir.Syntax.{w128}
-use Rattle.spd_plain.proofs.Tests.{same_test, differs}
+use Rattle.spd_plain.proofs.BitTests.{same_test, differs}
 use Rattle.spd_plain.proofs.sweep.has_gap.Goals as goal
 
 pub returns-else-residual-bounds : goal.returns-else-residual-bounds

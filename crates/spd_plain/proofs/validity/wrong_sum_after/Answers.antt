@@ -6,7 +6,7 @@ use Rattle.spd_model.specs.States.{sizes, states}
 use Rattle.spd_model.specs.Chances.{Sum, sum_of, one}
 use Rattle.spd_plain.proofs.StateOrder.{length-states}
 use Rattle.spd_plain.proofs.Finds.{find_map_more, find_map_here, find_map_none}
-use Rattle.spd_plain.proofs.Tests.{is_one, is_not_one}
+use Rattle.spd_plain.proofs.BitTests.{is_one, is_not_one}
 use Rattle.spd_plain.proofs.validity.wrong_sum_after.Goals as goal
 
 pub returns-then-sum-ne-ONE : goal.returns-then-sum-ne-ONE
