@@ -3,26 +3,23 @@ use Rattle.std.proofs.Common.{◌≡◌, ℕ, List, [], length, ℤ, ◌≤◌, 
 use Rattle.std.proofs.Math.ListN.{length-map}
 use Rattle.spd_model.specs.declared.process.Var.{Var}
 use Rattle.spd_model.specs.declared.Why.{Why}
-use Rattle.spd_model.specs.declared.Why.TheVariants as Why
 use Rattle.spd_model.specs.Process.{Process}
 use Rattle.spd_model.specs.States.{sizes, at, IsState}
 use Rattle.spd_model.specs.Chances.{IsValid}
-use Rattle.spd_model.specs.Turns.{stop_of, residual_of, place_of, error_of}
+use Rattle.spd_model.specs.Turns.{place_of}
 use Rattle.spd_model.proofs.TreeLaws.{length-IsState}
 use Rattle.spd_bellman.proofs.Bounds.{near_optimal}
 use Rattle.spd_plain.specs.declared.Plain.{Plain}
 use Rattle.spd_plain.specs.declared.PlainFault.{PlainFault}
-use Rattle.spd_plain.specs.declared.PlainFault.TheVariants as PlainFault
 use Rattle.spd_plain.specs.Plain.{plain_of, FaultCause, IsInvalid}
 use Rattle.spd_solver.specs.declared.status.Status.{Status}
 use Rattle.spd_solver.specs.declared.status.Status.TheVariants.{Done, Usage, OpenFault, ReadFault, TooLong, Refused, Sum as WrongSum, Range as WideReward, TurnLimit, WriteFault, Memory}
 use Rattle.spd_solver.specs.declared.file.Unreadable.{Unreadable}
-use Rattle.spd_solver.specs.declared.file.Unreadable.TheVariants as Unreadable
 use Rattle.spd_solver.specs.declared.run.Solution.{Solution}
 use Rattle.spd_solver.specs.Small.{IsSmall}
 use Rattle.spd_edge.specs.Told.{Took}
 use Rattle.spd_solver.specs.Pieces.{TookFront}
-use Rattle.spd_solver.specs.Run.{turn_limit, span, stop, value, residual, text, IsFileOf, IsFinished, Means}
+use Rattle.spd_solver.specs.Run.{turn_limit, span, stop, value, residual, text, IsFinished, Means}
 use Rattle.spd_solver.specs.Solved.{EndsSolved, IsSolution, Refuses, RefusesAs, RefusesBytes, EndsUnread, solved_status, text_of_plain}
 use Rattle.spd_solver.proofs.SmallReadLaws.{one_process}
 use Rattle.spd_solver.proofs.TextWhole.{text_with-result_text, place-parts}

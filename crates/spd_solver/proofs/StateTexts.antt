@@ -1,5 +1,5 @@
 -- A state in words, behind a space each or parted by spaces.
-use Rattle.std.proofs.Common.{◌≡◌, ℕ, zero, suc, ◌+◌, ◌<◌, ◌≤◌, List, [], ◌∷◌, ◌++◌, length, map, take, drop, ◌-◌, take_all, length-drop, codes, zip, refl, ap, sym, ◌∙◌, subst, arith}
+use Rattle.std.proofs.Common.{◌≡◌, ℕ, ◌<◌, ◌≤◌, List, [], ◌∷◌, ◌++◌, length, map, take, drop, ◌-◌, take_all, length-drop, codes, zip, ap, sym, ◌∙◌, subst, arith}
 use Rattle.std.specs.List.{join_with_byte}
 use Rattle.spd_model.specs.declared.process.Var.{Var}
 use Rattle.spd_model.specs.Process.{Process}

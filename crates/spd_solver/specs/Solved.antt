@@ -1,5 +1,5 @@
 -- The stages of a run: what a model's solution is, and why a model or a file has none.
-use Rattle.std.specs.Prelude.{ℕ, ◌≤◌, ◌≡◌, ◌⊎◌, List, length, ℤ, Option, Some, None}
+use Rattle.std.specs.Prelude.{ℕ, ◌≡◌, ◌⊎◌, List, Some, None}
 use Rattle.spd_model.specs.declared.Why.TheVariants as Why
 use Rattle.spd_model.specs.Process.{Process}
 use Rattle.spd_model.specs.Chances.{IsValid, Sum, first_wrong_sum, Reward, first_wide_reward}
@@ -7,12 +7,10 @@ use Rattle.spd_bellman.specs.Bound.{IsNearOptimal}
 use Rattle.spd_solver.specs.declared.status.Status.{Status}
 use Rattle.spd_solver.specs.declared.status.Status.TheVariants.{Done, Usage, OpenFault, ReadFault, TooLong, Refused, Sum as WrongSum, Range as WideReward, TurnLimit, WriteFault, Memory}
 use Rattle.spd_solver.specs.declared.file.Unreadable.{Unreadable}
-use Rattle.spd_solver.specs.declared.file.Unreadable.TheVariants as Unreadable
 use Rattle.spd_solver.specs.Small.{IsSmall}
 use Rattle.spd_model.specs.ResultText.{action_name, var_name}
 use Rattle.spd_plain.specs.declared.Plain.{Plain}
 use Rattle.spd_plain.specs.declared.PlainFault.{PlainFault}
-use Rattle.spd_plain.specs.declared.PlainFault.TheVariants as PlainFault
 use Rattle.spd_solver.specs.TextParts.{text_with}
 use Rattle.spd_solver.specs.Run.{stop, value, residual, text, state_text, Tells, TellsReward}
 

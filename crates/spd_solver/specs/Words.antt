@@ -1,5 +1,5 @@
 -- The words of the command: `solve` and the name of a file.
-use Rattle.std.specs.Prelude.{ℕ, Bool, true, false, not, ◌||◌, ◌==◌, if◌then◌else◌, List, [], ◌∷◌, codes, bytes_eq, Result, Ok, Err}
+use Rattle.std.specs.Prelude.{ℕ, Bool, false, not, ◌||◌, ◌==◌, if◌then◌else◌, List, [], ◌∷◌, codes, bytes_eq, Result, Ok, Err}
 
 -- a name that isn't empty, and is `-` or doesn't begin with `-`
 abbrev pub is_file_name : List ℕ → Bool

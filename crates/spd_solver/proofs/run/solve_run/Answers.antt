@@ -1,4 +1,4 @@
-use Rattle.std.proofs.Common.{◌≡◌, ◌<◌, ◌≤◌, ℕ, List, length, subst, sym, ap, ◌∙◌, arith}
+use Rattle.std.proofs.Common.{◌≡◌, ℕ, List, subst, ◌∙◌, arith}
 use Rattle.spd_solver.specs.Words.{named_file}
 use Rattle.spd_solver.specs.Run.{Means}
 use Rattle.spd_solver.specs.Solved.{IsSolution, RefusesBytes}
