@@ -9,11 +9,14 @@ use Rattle.spd_model.specs.Chances.{IsValid, Sum, first_wrong_sum, Reward, first
 use Rattle.spd_model.specs.Turns.{residual_of, Stop, stop_of}
 use Rattle.spd_model.specs.ResultText.{action_name, var_name, state_words, result_text}
 use Rattle.spd_bellman.specs.Bound.{IsNearOptimal}
-use Rattle.spd_solver.specs.declared.file.TheConstants.{FILE_LIMIT}
 use Rattle.spd_solver.specs.declared.status.Status.{Status}
 use Rattle.spd_solver.specs.declared.status.Status.TheVariants.{Done, Usage, OpenFault, ReadFault, TooLong, Refused, Sum as WrongSum, Range as WideReward, TurnLimit, WriteFault, Memory}
 use Rattle.spd_solver.specs.Pieces.{TookFront}
 use Rattle.spd_solver.specs.Small.{IsSmall}
+
+-- the most bytes that a model file may have
+abbrev pub file_limit : ℕ
+file_limit = 4194304
 
 -- the turn limit and the span of a run
 abbrev pub turn_limit : ℕ
@@ -37,7 +40,7 @@ text m = result_text m turn_limit span
 
 -- the bytes are a file of this process: no longer than a file may be, and of the small form
 pub record IsFileOf (bytes : List ℕ) (m : Process) : Type 0 where
-  pub short : length bytes ≤ FILE_LIMIT
+  pub short : length bytes ≤ file_limit
   pub small : IsSmall bytes m
 
 -- a state in words, parted by spaces
@@ -66,8 +69,8 @@ Means bytes before now (TurnLimit r) =
     (m : Process) × IsFileOf bytes m × IsValid m × ((stop m).why ≡ Why.Limit) × (r ≡ residual m) × Took before (text m) now
     × IsNearOptimal m (value m)
 Means bytes before now WriteFault = (m : Process) × IsFileOf bytes m × IsValid m × TookFront before (text m) now
-Means bytes before now (TooLong name) = (FILE_LIMIT < length bytes) × (now ≡ before)
-Means bytes before now Refused = (length bytes ≤ FILE_LIMIT) × ((m : Process) → IsSmall bytes m → ⊥) × (now ≡ before)
+Means bytes before now (TooLong name) = (file_limit < length bytes) × (now ≡ before)
+Means bytes before now Refused = (length bytes ≤ file_limit) × ((m : Process) → IsSmall bytes m → ⊥) × (now ≡ before)
 Means bytes before now (WrongSum action var state sum) =
     (m : Process) × IsFileOf bytes m × (x : Sum) × (first_wrong_sum m ≡ Some x) × Tells m x action var state sum × (now ≡ before)
 Means bytes before now (WideReward action state value) =
