@@ -7,7 +7,7 @@ use Rattle.spd_nodes.specs.Levels.{levels_of, passes, after, is_first}
 use Rattle.spd_nodes.specs.Trees.{Tree, Ends, Tests, value_at, IsFrom, IsAt, IsReduced, CanTest, join, tree_of}
 use Rattle.spd_nodes.proofs.TreeLaws.{after_above, tree_of-value_at}
 use Rattle.spd_nodes.proofs.ValueLaws.{value_at-join}
-use Rattle.spd_apply.specs.Halves.{yes_at, no_at, IsAligned}
+use Rattle.spd_apply.specs.Halves.{yes_at, no_at, AreLeaves, IsAligned}
 use Rattle.spd_apply.specs.Applied.{mapped, against, applied}
 use Rattle.spd_apply.proofs.HalfLaws.{same_level, Fits, Splits, splits-at, splits-past, after-next, level_of-reduced, aligned-from, aligned-fits, Joins, joins, IsFrom-at, IsFrom-lower, at-from, after_le, eq-refl, ne-false}
 
@@ -35,7 +35,7 @@ module _ (ds : List ℕ) (b : ℕ) (op : Leaf → Leaf → Leaf) (p : List ℕ) 
   picked_both true u v w x = refl
   picked_both false u v w x = refl
 
-  value_at-against : (u : Tree) → value_at ds b (against k fy fn u) p ≡ op (cond (passes ds (k - b) p) (value_at ds b y p) (value_at ds b n p)) (value_at ds b u p)
+  pub value_at-against : (u : Tree) → value_at ds b (against k fy fn u) p ≡ op (cond (passes ds (k - b) p) (value_at ds b y p) (value_at ds b n p)) (value_at ds b u p)
   value_at-against (Ends a) = value_at-join ds b k (fy (Ends a)) (fn (Ends a)) p ∙ rw (hy (Ends a), hn (Ends a)) (picked (passes ds (k - b) p) _ _ a)
   value_at-against (Tests l v m) = go (nat_lt k l) (nat_lt l k) refl refl (value_at-against v) (value_at-against m)
     where
@@ -62,11 +62,6 @@ top_of (Ends a) (Ends b) = 0
 top_of (Ends a) (Tests l v m) = l
 top_of (Tests k y n) (Ends b) = k
 top_of (Tests k y n) (Tests l v m) = cond (nat_lt l k) l k
-
-abbrev pub BothEnd : Tree → Tree → Type 0
-BothEnd (Ends a) (Ends b) = Unit {0}
-BothEnd (Ends a) (Tests l v m) = ⊥
-BothEnd (Tests k y n) u = ⊥
 
 abbrev pub tree_size : Tree → ℕ
 tree_size (Ends a) = 1
@@ -144,7 +139,7 @@ meets-right ds l (Tests k y n) v m r s f =
       is_join = λ op. rw (a, c, eq-refl l, b) refl;
     }
 
-pub meets-cases : (ds : List ℕ) (t u : Tree) → IsReduced ds 0 t → IsReduced ds 0 u → IsAligned ds t u → BothEnd t u ⊎ Meets ds (top_of t u) t u
+pub meets-cases : (ds : List ℕ) (t u : Tree) → IsReduced ds 0 t → IsReduced ds 0 u → IsAligned ds t u → AreLeaves t u ⊎ Meets ds (top_of t u) t u
 meets-cases ds (Ends a) (Ends b) r s h = inl tt
 meets-cases ds (Ends a) (Tests l v m) r s h = inr (meets-right ds l (Ends a) v m r s tt)
 meets-cases ds (Tests k y n) (Ends b) r s h = inr (meets-left ds k y n (Ends b) r s tt)
@@ -162,7 +157,7 @@ size-positive : (t : Tree) → 1 ≤ tree_size t
 size-positive (Ends a) = omega arith
 size-positive (Tests l y n) = omega arith
 
-applied-ends : (ds : List ℕ) (op : Leaf → Leaf → Leaf) (t u : Tree) → BothEnd t u → (e : ℕ) → IsReduced ds 0 (applied op t u) × IsFrom ds 0 e (applied op t u)
+applied-ends : (ds : List ℕ) (op : Leaf → Leaf → Leaf) (t u : Tree) → AreLeaves t u → (e : ℕ) → IsReduced ds 0 (applied op t u) × IsFrom ds 0 e (applied op t u)
 applied-ends ds op (Ends a) (Ends b) h e = (tt, tt)
 applied-ends ds op (Ends a) (Tests l v m) h e = absurd h
 applied-ends ds op (Tests k y n) u h e = absurd h

@@ -14,12 +14,12 @@ use Rattle.spd_nodes.proofs.RankLaws.{rank-from, rank-at}
 use Rattle.spd_nodes.proofs.TreeLaws.{tree_eq-true, after_above}
 use Rattle.spd_apply.specs.declared.pointwise.Top.TheVariants as T
 use Rattle.spd_apply.specs.declared.rule.Below.TheVariants as B
-use Rattle.spd_apply.specs.Halves.{yes_at, no_at, pair_rank}
+use Rattle.spd_apply.specs.Halves.{yes_at, no_at, AreLeaves, pair_rank}
 use Rattle.spd_apply.specs.Applied.{applied, fit_mark, AllFit, MayApply}
 use Rattle.spd_apply.specs.Rules.{PlansTest}
 use Rattle.spd_apply.specs.Views.{top_of_views, next_yes, next_no}
 use Rattle.spd_apply.proofs.HalfLaws.{Splits}
-use Rattle.spd_apply.proofs.AppliedLaws.{top_of, BothEnd, Meets, meets-cases, Descends, descends}
+use Rattle.spd_apply.proofs.AppliedLaws.{top_of, Meets, meets-cases, Descends, descends}
 
 -- an entry that is known, with its tree
 pub record Known (s : Shown) (r : Entry) (t : Tree) : Type 0 where
@@ -54,7 +54,7 @@ ends-of s (V.Test k v m) (V.Test l w n) f g x y h i e = absurd (cc e)
 
 -- the lower of two views' levels is that of the trees
 top-of : (s : Shown) (a b : View) (f g : Entry) (l : Level) → IsViewOf s f a → IsViewOf s g b → top_of_views a b ≡ T.At l
-    → BothEnd (s.tree f) (s.tree g) ⊎ Meets (slots s.sizes) (top_of (s.tree f) (s.tree g)) (s.tree f) (s.tree g) → Meets (slots s.sizes) l.0 (s.tree f) (s.tree g)
+    → AreLeaves (s.tree f) (s.tree g) ⊎ Meets (slots s.sizes) (top_of (s.tree f) (s.tree g)) (s.tree f) (s.tree g) → Meets (slots s.sizes) l.0 (s.tree f) (s.tree g)
 top-of s (V.Leaf a) (V.Leaf b) f g l h i e m = absurd (cc e)
 top-of s (V.Leaf a) (V.Test k v n) f g l h i e m =
     let p : k ≡ l = cc in

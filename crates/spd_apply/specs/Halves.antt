@@ -13,6 +13,16 @@ abbrev pub no_at : ℕ → Tree → Tree
 no_at l (Ends a) = Ends a
 no_at l (Tests k y n) = cond (k == l) n (Tests k y n)
 
+-- a tree is a leaf
+abbrev pub IsLeaf : Tree → Type 0
+IsLeaf (Ends a) = Unit {0}
+IsLeaf (Tests l y n) = ⊥
+
+-- two trees are leaves
+abbrev pub AreLeaves : Tree → Tree → Type 0
+AreLeaves (Ends a) u = IsLeaf u
+AreLeaves (Tests l y n) u = ⊥
+
 -- two trees that an operation may meet: where both roots test one slot, they test one level
 abbrev pub IsAligned : List ℕ → Tree → Tree → Type 0
 IsAligned ds (Ends a) u = Unit {0}

@@ -3,7 +3,7 @@ use Rattle.std.specs.Prelude.{◌≡◌, ℕ, ◌+◌, ◌<◌, ◌≤◌, [], �
 use Rattle.spd_cons_core.specs.declared.key.Entry.{Entry}
 use Rattle.spd_memo.specs.Kept.{Kept}
 use Rattle.spd_nodes.specs.Levels.{levels_of, slots}
-use Rattle.spd_nodes.specs.Trees.{Tree, Ends, join, CanTest}
+use Rattle.spd_nodes.specs.Trees.{Tree, join, CanTest}
 use Rattle.spd_nodes.specs.Shown.{Shown, IsSound, Grows, MakesOnly}
 use Rattle.spd_apply.specs.Halves.{pair_rank}
 use Rattle.spd_apply.specs.declared.rule.Below.{Below}
@@ -52,11 +52,11 @@ pub record PlansTest (making : Making) (may : Tree → Tree → Type 0) (s : Sho
   pub yes_smaller : below_rank s yes ≤ pair_rank (slots s.sizes) (s.tree f) (s.tree g)
   pub no_smaller : below_rank s no ≤ pair_rank (slots s.sizes) (s.tree f) (s.tree g)
 
--- a plan says what is made of two entries
-abbrev pub IsPlan : Making → (Tree → Tree → Type 0) → Shown → Entry → Entry → Plan → Type 0
-IsPlan making may s f g (P.Leaf a) = making (s.tree f) (s.tree g) ≡ Ends a
-IsPlan making may s f g (P.Below b) = PlansBelow making may s f g b
-IsPlan making may s f g (P.Test l y n) = PlansTest making may s f g l.0 y n
+-- a plan says what is made of two entries, or that they are trees from which an operation goes no further
+abbrev pub IsPlan : Making → (Tree → Tree → Type 0) → (Tree → Tree → Type 0) → Shown → Entry → Entry → Plan → Type 0
+IsPlan making may ends s f g P.Bottom = ends (s.tree f) (s.tree g)
+IsPlan making may ends s f g (P.Below b) = PlansBelow making may s f g b
+IsPlan making may ends s f g (P.Test l y n) = PlansTest making may s f g l.0 y n
 
 -- an entry is what an operation makes of two others
 pub record IsAnswer (making : Making) (s : Shown) (f g r : Entry) : Type 0 where

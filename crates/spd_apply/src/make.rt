@@ -88,7 +88,7 @@ fn make_anew<F: Forest, R: Rule, L: Ledger>(
     ensures capacity { memo.new.capacity ≡ memo.old.capacity }
 {
     match rule.plan(forest, f, g) {
-        Plan::Leaf(leaf) => forest.leaf(leaf, steps),
+        Plan::Bottom => rule.bottom(forest, f, g, steps),
         Plan::Below(below) => make_below(forest, rule, below, memo, steps),
         Plan::Test { level, yes, no } => {
             let yes = make_below(forest, rule, yes, memo, steps)?;

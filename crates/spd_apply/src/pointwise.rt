@@ -1,10 +1,12 @@
 ghost use Rattle.std.specs.Prelude.{◌≡◌, ℕ};
+ghost use Rattle.spd_apply.specs.Halves.{AreLeaves};
 ghost use Rattle.spd_apply.specs.Applied.{applied, MayApply};
 ghost use Rattle.spd_apply.specs.Views.{top_of_views, next_yes, next_no};
 
 use crate::leaf_op::LeafOp;
-use crate::rule::{Below, Plan, Rule};
-use spd_nodes::{Forest, Leaf, Level, Ref, View};
+use crate::rule::{Below, OpFault, Plan, Rule};
+use spd_nodes::{Forest, Leaf, Level, Ref, Steps, View};
+use std::sync::ledger::Ledger;
 
 /// Where two views begin.
 #[derive(Clone, Copy)]
@@ -53,11 +55,13 @@ impl<'a, O: LeafOp> Rule for Pointwise<'a, O> {
 
     ghost may = { λ r sizes t u. MayApply (O.fits r.op.now) sizes t u };
 
+    ghost ends = { λ r sizes t u. AreLeaves t u };
+
     fn plan<F: Forest>(&self, forest: &mut F, f: Ref, g: Ref) -> Plan {
         let a = forest.view(f);
         let b = forest.view(g);
         match lower_top(a, b) {
-            Top::Leaves(x, y) => Plan::Leaf(self.op.of(x, y)),
+            Top::Leaves(_, _) => Plan::Bottom,
             Top::At(level) => {
                 let (f_yes, f_no) = halves(a, f, level);
                 let (g_yes, g_no) = halves(b, g, level);
@@ -67,6 +71,21 @@ impl<'a, O: LeafOp> Rule for Pointwise<'a, O> {
                     no: Below::Pair(f_no, g_no),
                 }
             }
+        }
+    }
+
+    fn bottom<F: Forest, L: Ledger>(
+        &self,
+        forest: &mut F,
+        f: Ref,
+        g: Ref,
+        steps: &mut Steps<L>,
+    ) -> Result<Ref, OpFault> {
+        let a = forest.view(f);
+        let b = forest.view(g);
+        match (a, b) {
+            (View::Leaf(x), View::Leaf(y)) => forest.leaf(self.op.of(x, y), steps),
+            _ => unreachable!(),
         }
     }
 }

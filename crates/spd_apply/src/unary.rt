@@ -1,5 +1,6 @@
 ghost use Rattle.std.specs.Prelude.{◌≡◌, ℕ, [], ◌∷◌, IfOk, IfErr, true};
 ghost use Rattle.spd_nodes.specs.Shown.{Shown, IsSound, Grows, IsWhole, StandsFor, MakesNodesOf, FaultsAt, meaning};
+ghost use Rattle.spd_apply.specs.Halves.{IsLeaf};
 ghost use Rattle.spd_apply.specs.Applied.{mapped, EachFits};
 ghost use Rattle.spd_apply.specs.Outcome.{FitsEverywhere, map_each};
 
@@ -21,14 +22,29 @@ impl<'a, M: LeafMap> Rule for EachLeaf<'a, M> {
 
     ghost may = { λ r sizes t u. EachFits (M.fits r.map.now) t };
 
+    ghost ends = { λ r sizes t u. IsLeaf t };
+
     fn plan<F: Forest>(&self, forest: &mut F, f: Ref, g: Ref) -> Plan {
         match forest.view(f) {
-            View::Leaf(a) => Plan::Leaf(self.map.of(a)),
+            View::Leaf(_) => Plan::Bottom,
             View::Test { level, yes, no } => Plan::Test {
                 level,
                 yes: Below::Pair(yes, yes),
                 no: Below::Pair(no, no),
             },
+        }
+    }
+
+    fn bottom<F: Forest, L: Ledger>(
+        &self,
+        forest: &mut F,
+        f: Ref,
+        g: Ref,
+        steps: &mut Steps<L>,
+    ) -> Result<Ref, OpFault> {
+        match forest.view(f) {
+            View::Leaf(a) => forest.leaf(self.map.of(a), steps),
+            View::Test { .. } => unreachable!(),
         }
     }
 }

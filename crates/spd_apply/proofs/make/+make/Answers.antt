@@ -42,11 +42,11 @@ make_anew-test-requires-clause-fits g t c =
     (g.F.Forest.shows c.make_below-in-Test-2.new.forest) c.make_below-in-Test-2.new.memo c.make_below-in-Test-2.ensures.did
     c.in_ok-yes-in-Test.yes c.in_ok-no-in-Test.no yes c.in_ok-no-in-Test.ensures.ok
 
-pub make_anew-returns-in-Leaf-clause-did : goal.make_anew-returns-in-Leaf-clause-did
-make_anew-returns-in-Leaf-clause-did g t c =
-    let grows = rw c.plan.ensures.same at c.leaf.ensures.grows in
-    let makes = rw (c.plan.ensures.same, sym c.in-Leaf.ensures.plan) at c.leaf.ensures.makes in
-    did-call (g.R.Rule.making c.args.rule.now) (g.F.Forest.shows c.args.forest.now) (g.F.Forest.shows c.leaf.new.self) _ c.args.memo.now c.requires.memo c.leaf.ensures.sound grows makes
+pub make_anew-returns-in-Bottom-clause-did : goal.make_anew-returns-in-Bottom-clause-did
+make_anew-returns-in-Bottom-clause-did g t c =
+    let grows = rw c.plan.ensures.same at c.bottom.ensures.grows in
+    let makes = rw c.plan.ensures.same at c.bottom.ensures.makes in
+    did-call (g.R.Rule.making c.args.rule.now) (g.F.Forest.shows c.args.forest.now) (g.F.Forest.shows c.bottom.new.forest) _ c.args.memo.now c.requires.memo c.bottom.ensures.sound grows makes
 
 pub make_anew-returns-in_ok-no-in-Test-clause-did : goal.make_anew-returns-in_ok-no-in-Test-clause-did
 make_anew-returns-in_ok-no-in-Test-clause-did g t c =
