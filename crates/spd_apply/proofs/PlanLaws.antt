@@ -1,5 +1,5 @@
 -- How an operation on leaves goes on from two entries.
-use Rattle.std.proofs.Common.{◌≡◌, ℕ, ◌-◌, ◌<◌, ◌≤◌, ◌⊎◌, inl, inr, ◌==◌, Bool, true, false, cond, List, refl, sym, ◌∙◌, ap, arith}
+use Rattle.std.proofs.Common.{◌≡◌, ℕ, ◌-◌, ◌<◌, ◌≤◌, ◌⊎◌, inl, inr, ◌==◌, Bool, true, false, cond, None, Some, List, refl, sym, ◌∙◌, ap, arith}
 use Rattle.std.specs.Prelude.{nat_lt}
 use Rattle.spd_cons_core.specs.declared.key.Entry.{Entry}
 use Rattle.spd_nodes.specs.declared.leaf.Leaf.{Leaf}
@@ -12,12 +12,11 @@ use Rattle.spd_nodes.specs.Trees.{Tree, Ends, Tests, tree_eq, tree_rank, join, I
 use Rattle.spd_nodes.specs.Shown.{Shown, IsSound, IsViewOf}
 use Rattle.spd_nodes.proofs.RankLaws.{rank-from, rank-at}
 use Rattle.spd_nodes.proofs.TreeLaws.{tree_eq-true, after_above}
-use Rattle.spd_apply.specs.declared.pointwise.Top.TheVariants as T
 use Rattle.spd_apply.specs.declared.rule.Below.TheVariants as B
 use Rattle.spd_apply.specs.Halves.{yes_at, no_at, AreLeaves, pair_rank}
 use Rattle.spd_apply.specs.Applied.{applied, fit_mark, AllFit, MayApply}
 use Rattle.spd_apply.specs.Rules.{PlansTest}
-use Rattle.spd_apply.specs.Views.{top_of_views, next_yes, next_no}
+use Rattle.spd_apply.specs.Views.{lower_of_views, next_yes, next_no}
 use Rattle.spd_apply.proofs.HalfLaws.{Splits}
 use Rattle.spd_apply.proofs.AppliedLaws.{top_of, Meets, meets-cases, Descends, descends}
 
@@ -42,18 +41,8 @@ next_no-is s (V.Test j y n) r l k h = go (j.0 == l.0) refl
     go true e = record { knows = h.2; tree = rw (h.0, e) refl }
     go false e = record { knows = k; tree = rw (h.0, e) refl }
 
--- the leaves of two views are the trees
-pub ends-of : (s : Shown) (a b : View) (f g : Entry) (x y : Leaf) → IsViewOf s f a → IsViewOf s g b → top_of_views a b ≡ T.Leaves x y → (s.tree f ≡ Ends x) × (s.tree g ≡ Ends y)
-ends-of s (V.Leaf a) (V.Leaf b) f g x y h i e =
-    let p : a ≡ x = cc in
-    let q : b ≡ y = cc in
-    (h ∙ ap Ends p, i ∙ ap Ends q)
-ends-of s (V.Leaf a) (V.Test l v m) f g x y h i e = absurd (cc e)
-ends-of s (V.Test k v m) (V.Leaf b) f g x y h i e = absurd (cc e)
-ends-of s (V.Test k v m) (V.Test l w n) f g x y h i e = absurd (cc e)
-
 -- the lower of two views' levels is that of the trees
-top-of : (s : Shown) (a b : View) (f g : Entry) (l : Level) → IsViewOf s f a → IsViewOf s g b → top_of_views a b ≡ T.At l
+pub top-of : (s : Shown) (a b : View) (f g : Entry) (l : Level) → IsViewOf s f a → IsViewOf s g b → lower_of_views a b ≡ Some l
     → AreLeaves (s.tree f) (s.tree g) ⊎ Meets (slots s.sizes) (top_of (s.tree f) (s.tree g)) (s.tree f) (s.tree g) → Meets (slots s.sizes) l.0 (s.tree f) (s.tree g)
 top-of s (V.Leaf a) (V.Leaf b) f g l h i e m = absurd (cc e)
 top-of s (V.Leaf a) (V.Test k v n) f g l h i e m =
@@ -128,7 +117,7 @@ module _ (fits : Leaf → Leaf → Bool) (op : Leaf → Leaf → Leaf) (s : Show
         no_smaller = rw (b.tree, d.tree) (omega (arith, rn, rm, top));
       }
 
-  pub plans-at : (a b : View) (l : Level) → IsViewOf s f a → IsViewOf s g b → top_of_views a b ≡ T.At l
+  pub plans-at : (a b : View) (l : Level) → IsViewOf s f a → IsViewOf s g b → lower_of_views a b ≡ Some l
       → PlansTest (applied op) (MayApply fits s.sizes) s f g l.0 (B.Pair (next_yes a f l) (next_yes b g l)) (B.Pair (next_no a f l) (next_no b g l))
   plans-at a b l h i e =
       plans-from l.0 (next_yes a f l) (next_no a f l) (next_yes b g l) (next_no b g l)

@@ -1,18 +1,16 @@
 -- The views of two entries, and where an operation goes on from them.
-use Rattle.std.specs.Prelude.{◌==◌, cond, nat_lt}
+use Rattle.std.specs.Prelude.{◌==◌, cond, nat_lt, Option, None, Some}
 use Rattle.spd_cons_core.specs.declared.key.Entry.{Entry}
 use Rattle.spd_nodes.specs.declared.layout.Level.{Level}
 use Rattle.spd_nodes.specs.declared.forest.View.{View}
 use Rattle.spd_nodes.specs.declared.forest.View.TheVariants as V
-use Rattle.spd_apply.specs.declared.pointwise.Top.{Top}
-use Rattle.spd_apply.specs.declared.pointwise.Top.TheVariants as T
 
--- the leaves of two views, or the lower of the levels that they test
-abbrev pub top_of_views : View → View → Top
-top_of_views (V.Leaf a) (V.Leaf b) = T.Leaves a b
-top_of_views (V.Leaf a) (V.Test l v m) = T.At l
-top_of_views (V.Test k y n) (V.Leaf b) = T.At k
-top_of_views (V.Test k y n) (V.Test l v m) = T.At (cond (nat_lt l.0 k.0) l k)
+-- the lower of the levels that two views test, if any
+abbrev pub lower_of_views : View → View → Option Level
+lower_of_views (V.Leaf a) (V.Leaf b) = None
+lower_of_views (V.Leaf a) (V.Test l v m) = Some l
+lower_of_views (V.Test k y n) (V.Leaf b) = Some k
+lower_of_views (V.Test k y n) (V.Test l v m) = Some (cond (nat_lt l.0 k.0) l k)
 
 -- where an entry with this view goes on if a level's test holds
 abbrev pub next_yes : View → Entry → Level → Entry

@@ -16,7 +16,7 @@ pub use leaf_op::{LeafMap, LeafOp};
 pub use make::{make_alone, make_pair};
 pub use maps::{ActNum, First, Second, SecondAct};
 pub use operations::{Add, Keep, MakePair, Max, Min, Mul, PickFirst, Sub};
-pub use pointwise::Pointwise;
+pub use pointwise::{Pointwise, halves, lower_level};
 pub use rounding::{CeilBy, FloorBy, TimesCeil, TimesFloor};
 pub use rule::{Below, OpFault, Plan, Rule};
 pub use unary::{EachLeaf, map_leaves};

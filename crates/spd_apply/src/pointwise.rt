@@ -1,40 +1,33 @@
 ghost use Rattle.std.specs.Prelude.{◌≡◌, ℕ};
 ghost use Rattle.spd_apply.specs.Halves.{AreLeaves};
 ghost use Rattle.spd_apply.specs.Applied.{applied, MayApply};
-ghost use Rattle.spd_apply.specs.Views.{top_of_views, next_yes, next_no};
+ghost use Rattle.spd_apply.specs.Views.{lower_of_views, next_yes, next_no};
 
 use crate::leaf_op::LeafOp;
 use crate::rule::{Below, OpFault, Plan, Rule};
 use spd_nodes::{Forest, Leaf, Level, Ref, Steps, View};
 use std::sync::ledger::Ledger;
 
-/// Where two views begin.
-#[derive(Clone, Copy)]
-enum Top {
-    Leaves(Leaf, Leaf),
-    At(Level),
-}
-
-/// Two leaves, or the lower level of the roots.
-fn lower_top(a: View, b: View) -> Top
-    ensures { result ≡ top_of_views a b }
+/// The lower of the levels that two roots test, if any.
+pub fn lower_level(a: View, b: View) -> Option<Level>
+    ensures { result ≡ lower_of_views a b }
 {
     match (a, b) {
-        (View::Leaf(x), View::Leaf(y)) => Top::Leaves(x, y),
-        (View::Leaf(_), View::Test { level, .. }) => Top::At(level),
-        (View::Test { level, .. }, View::Leaf(_)) => Top::At(level),
+        (View::Leaf(_), View::Leaf(_)) => None,
+        (View::Leaf(_), View::Test { level, .. }) => Some(level),
+        (View::Test { level, .. }, View::Leaf(_)) => Some(level),
         (View::Test { level: left, .. }, View::Test { level: right, .. }) => {
             if right.0 < left.0 {
-                Top::At(right)
+                Some(right)
             } else {
-                Top::At(left)
+                Some(left)
             }
         }
     }
 }
 
 /// The children of a Ref whose root tests a level, or itself twice.
-fn halves(view: View, r: Ref, at: Level) -> (Ref, Ref)
+pub fn halves(view: View, r: Ref, at: Level) -> (Ref, Ref)
     ensures yes { result.0 ≡ next_yes view r at }
     ensures no { result.1 ≡ next_no view r at }
 {
@@ -60,9 +53,9 @@ impl<'a, O: LeafOp> Rule for Pointwise<'a, O> {
     fn plan<F: Forest>(&self, forest: &mut F, f: Ref, g: Ref) -> Plan {
         let a = forest.view(f);
         let b = forest.view(g);
-        match lower_top(a, b) {
-            Top::Leaves(_, _) => Plan::Bottom,
-            Top::At(level) => {
+        match lower_level(a, b) {
+            None => Plan::Bottom,
+            Some(level) => {
                 let (f_yes, f_no) = halves(a, f, level);
                 let (g_yes, g_no) = halves(b, g, level);
                 Plan::Test {

@@ -21,9 +21,11 @@ impl Rule for AtValue {
 
     ghost may = { λ r sizes t u. MayRestrict r.first r.end r.value sizes t };
 
+    ghost ends = { λ r sizes t u. cofactored r.first r.end r.value t ≡ t };
+
     fn plan<F: Forest>(&self, forest: &mut F, f: Ref, g: Ref) -> Plan {
         match forest.view(f) {
-            View::Leaf(_) => Plan::Below(Below::Known(f)),
+            View::Leaf(_) => Plan::Bottom,
             View::Test { level, yes, no } => {
                 if level.0 < self.first {
                     Plan::Test {
@@ -32,7 +34,7 @@ impl Rule for AtValue {
                         no: Below::Pair(no, no),
                     }
                 } else if level.0 >= self.end {
-                    Plan::Below(Below::Known(f))
+                    Plan::Bottom
                 } else if level.0 == self.first + self.value {
                     Plan::Below(Below::Known(yes))
                 } else {
@@ -40,6 +42,16 @@ impl Rule for AtValue {
                 }
             }
         }
+    }
+
+    fn bottom<F: Forest, L: Ledger>(
+        &self,
+        forest: &mut F,
+        f: Ref,
+        g: Ref,
+        steps: &mut Steps<L>,
+    ) -> Result<Ref, OpFault> {
+        Ok(f)
     }
 }
 

@@ -18,9 +18,11 @@ impl Rule for Priming {
 
     ghost may = { λ r sizes t u. MayPrime r.layout sizes t };
 
+    ghost ends = { λ r sizes t u. primed_tree r.layout t ≡ t };
+
     fn plan<F: Forest>(&self, forest: &mut F, f: Ref, g: Ref) -> Plan {
         match forest.view(f) {
-            View::Leaf(_) => Plan::Below(Below::Known(f)),
+            View::Leaf(_) => Plan::Bottom,
             View::Test { level, yes, no } => {
                 let (var, _, value) = self.layout.what(level);
                 Plan::Test {
@@ -30,6 +32,16 @@ impl Rule for Priming {
                 }
             }
         }
+    }
+
+    fn bottom<F: Forest, L: Ledger>(
+        &self,
+        forest: &mut F,
+        f: Ref,
+        g: Ref,
+        steps: &mut Steps<L>,
+    ) -> Result<Ref, OpFault> {
+        Ok(f)
     }
 }
 

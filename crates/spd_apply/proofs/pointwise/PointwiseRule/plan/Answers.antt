@@ -2,8 +2,8 @@ use Rattle.std.proofs.Common.{sym}
 use Rattle.spd_apply.proofs.PlanLaws.{plans-at}
 use Rattle.spd_apply.proofs.pointwise.PointwiseRule.plan.Goals as goal
 
-pub returns-in-At-clause-plan : goal.returns-in-At-clause-plan
-returns-in-At-clause-plan g c =
-    rw (c.halves.ensures.yes, c.halves.ensures.no, c.halves-in-At.ensures.yes, c.halves-in-At.ensures.no)
+pub returns-in-Some-clause-plan : goal.returns-in-Some-clause-plan
+returns-in-Some-clause-plan g c =
+    rw (c.halves.ensures.yes, c.halves.ensures.no, c.halves-in-Some.ensures.yes, c.halves-in-Some.ensures.no)
     (plans-at (g.O.LeafOp.fits c.args.self.now.op.now) (g.O.LeafOp.of c.args.self.now.op.now) (g.F.Forest.shows c.args.forest.now) c.requires.sound c.args.f c.args.g c.requires.left c.requires.right c.requires.may
-    c.view-a.result c.view-b.result c.in-At.level c.view-a.ensures.view (rw c.view-a.ensures.same at c.view-b.ensures.view) (sym c.in-At.ensures))
+    c.view-a.result c.view-b.result c.in-Some.level c.view-a.ensures.view (rw c.view-a.ensures.same at c.view-b.ensures.view) (sym c.in-Some.ensures))
