@@ -5,14 +5,10 @@ use Rattle.std.proofs.lemmas.Bool.Decides.{Decides-eqb, nat_tests}
 use Rattle.spd_nodes.specs.Levels.{levels_of, after, is_first}
 use Rattle.spd_nodes.specs.Trees.{Tree, Ends, Tests, tree_eq, IsFrom, IsAt, IsReduced, CanTest, join, IsNode, InYes, InNo}
 use Rattle.spd_nodes.proofs.TreeLaws.{tree_eq-true, tree_eq-refl}
-use Rattle.spd_apply.specs.Halves.{yes_at, no_at, IsAligned}
+use Rattle.spd_apply.specs.Halves.{yes_at, no_at, IsNotBefore, Fits, IsAligned}
 
 pub same_level : (k l : ℕ) → nat_lt k l ≡ false → nat_lt l k ≡ false → k ≡ l
 same_level k l e f = grind (arith, nat_tests)
-
--- a tree whose first level is this one, or is past its slot
-abbrev pub Fits : List ℕ → ℕ → Tree → Type 0
-Fits ds l t = IsFrom ds 0 (after ds l) t ⊎ IsAt l t
 
 -- the halves of a tree at a level that it tests first, if at all
 pub record Splits (ds : List ℕ) (l : ℕ) (t : Tree) : Type 0 where
@@ -53,6 +49,12 @@ splits-past ds l (Tests k y n) h r f =
       yes_reduced = rw e r;
       no_reduced = rw e r;
     }
+
+-- a tree that tests a level first, or is past its slot, has its halves there
+pub splits-fits : (ds : List ℕ) (l : ℕ) (t : Tree) → l < after ds l → IsReduced ds 0 t → Fits ds l t → Splits ds l t
+splits-fits ds l t h r (inl f) = splits-past ds l t h r f
+splits-fits ds l (Ends a) h r (inr f) = absurd f
+splits-fits ds l (Tests k y n) h r (inr f) = subst (λ v. Splits ds v (Tests k y n)) f (splits-at ds k y n r)
 
 -- the level after a test that is not its slot's last ends where that slot ends
 pub after-next : (ds : List ℕ) (l : ℕ) → l + 1 < after ds l → after ds (l + 1) ≡ after ds l
@@ -164,3 +166,15 @@ in-no x y n l h = go (tree_eq y n)
     go : (t : Bool) → IsNode x (cond t n (Tests l y n))
     go true = h
     go false = InNo h
+
+pub not-before-at : (l : ℕ) (t : Tree) → IsAt l t → IsNotBefore l t
+not-before-at l (Ends a) h = tt
+not-before-at l (Tests k y n) h = omega (arith, h)
+
+pub not-before-from : (ds : List ℕ) (l e : ℕ) (t : Tree) → l ≤ e → IsFrom ds 0 e t → IsNotBefore l t
+not-before-from ds l e (Ends a) h f = tt
+not-before-from ds l e (Tests k y n) h f = omega (arith, f.0)
+
+pub not-before-lower : (l k : ℕ) (t : Tree) → l ≤ k → IsNotBefore k t → IsNotBefore l t
+not-before-lower l k (Ends a) h f = tt
+not-before-lower l k (Tests j y n) h f = omega (arith, f)

@@ -2,6 +2,7 @@ pub mod AppliedLaws
 pub mod CeilingLaws
 pub mod HalfLaws
 pub mod MapLaws
+pub mod MeetingLaws
 pub mod MemoLaws
 pub mod PlanLaws
 pub mod Steps

@@ -3,7 +3,7 @@ use Rattle.std.proofs.Common.{◌≡◌, ℕ, Bool, true, List, refl, sym, ◌�
 use Rattle.spd_cons_core.specs.declared.key.Entry.{Entry}
 use Rattle.spd_nodes.specs.declared.leaf.Leaf.{Leaf}
 use Rattle.spd_nodes.specs.declared.leaf.Leaf.TheVariants.{Act}
-use Rattle.spd_nodes.specs.Levels.{slots}
+use Rattle.spd_nodes.specs.Levels.{levels_of, slots}
 use Rattle.spd_nodes.specs.Trees.{Ends, Tests, IsFrom, IsReduced, value_at}
 use Rattle.spd_nodes.specs.States.{point, plain_part, primed_part, function_of, Agree}
 use Rattle.spd_nodes.specs.Shown.{Shown, IsSound, IsWhole, meaning}
@@ -11,11 +11,12 @@ use Rattle.spd_nodes.proofs.RankLaws.{rank-view}
 use Rattle.spd_nodes.proofs.TreeLaws.{tree_of-value_at, tree_of-agree}
 use Rattle.spd_nodes.proofs.StateLaws.{positive-slots, IsPointOf, point-parts}
 use Rattle.spd_apply.specs.declared.rule.Below.TheVariants as B
-use Rattle.spd_apply.specs.Applied.{mapped, map_mark, EachFits}
+use Rattle.spd_apply.specs.Applied.{applied, mapped, map_mark, EachFits}
 use Rattle.spd_apply.specs.Outcome.{map_each, FitsEverywhere}
 use Rattle.spd_apply.specs.Rules.{PlansTest}
 use Rattle.spd_apply.proofs.HalfLaws.{eq-refl}
-use Rattle.spd_apply.proofs.AppliedLaws.{applied-whole, applied-tree_of, value_at-mapped, Meets, meets-right, descends}
+use Rattle.spd_apply.proofs.MeetingLaws.{Meets, meets-right, descends}
+use Rattle.spd_apply.proofs.AppliedLaws.{applied-goes, applied-whole, applied-tree_of, value_at-mapped}
 use Rattle.spd_apply.proofs.PlanLaws.{join-ends, fit-leaves}
 
 -- the operation that a map is, beside a leaf
@@ -37,7 +38,7 @@ module _ (map : Leaf → Leaf) (fits : Leaf → Bool) (s : Shown) (o : IsSound s
   map-plans g y n l h e ky kn =
       let r : IsReduced ds 0 (Tests l (s.tree y) (s.tree n)) = subst (λ t. IsReduced ds 0 t) e (o.reduced f kf) in
       let m : Meets ds l (Ends (Act 0)) (Tests l (s.tree y) (s.tree n)) = meets-right ds l (Ends (Act 0)) (s.tree y) (s.tree n) tt r tt in
-      let can = (descends ds l (Ends (Act 0)) (Tests l (s.tree y) (s.tree n)) tt r m).can_test (λ a b. map b) in
+      let can = (descends ds (levels_of ds) (applied (λ a b. map b)) (applied-goes ds (λ a b. map b)) l (Ends (Act 0)) (Tests l (s.tree y) (s.tree n)) m.level m).can_test in
       let both : (mapped (map_mark fits) (s.tree y) ≡ Ends (Act 1)) × (mapped (map_mark fits) (s.tree n) ≡ Ends (Act 1)) = join-ends l _ _ (Act 1) (ap (mapped (map_mark fits)) (sym e) ∙ h.all) in
       let smaller = rank-view s o f y n l kf e in
       record {
@@ -55,10 +56,10 @@ module _ (map : Leaf → Leaf) (fits : Leaf → Bool) (s : Shown) (o : IsSound s
     map-value = record { at = λ x y i j. value_at-mapped ds 0 map (s.tree f) (point x y) }
 
     pub map-reduced : IsReduced ds 0 (mapped map (s.tree f))
-    map-reduced = (applied-whole ds (λ a b. map b) (Ends (Act 0)) (s.tree f) tt (o.reduced f kf) 0 tt wf).0
+    map-reduced = (applied-whole ds (λ a b. map b) (Ends (Act 0)) (s.tree f) tt (o.reduced f kf) tt wf).0
 
     pub map-whole : IsFrom ds 0 0 (mapped map (s.tree f))
-    map-whole = (applied-whole ds (λ a b. map b) (Ends (Act 0)) (s.tree f) tt (o.reduced f kf) 0 tt wf).1
+    map-whole = (applied-whole ds (λ a b. map b) (Ends (Act 0)) (s.tree f) tt (o.reduced f kf) tt wf).1
 
     pub map-fits : FitsEverywhere fits s f → EachFits fits (s.tree f)
     map-fits h = record {

@@ -1,6 +1,7 @@
 -- How an operation on leaves goes on from two entries.
 use Rattle.std.proofs.Common.{◌≡◌, ℕ, ◌-◌, ◌<◌, ◌≤◌, ◌⊎◌, inl, inr, ◌==◌, Bool, true, false, cond, None, Some, List, refl, sym, ◌∙◌, ap, arith}
 use Rattle.std.specs.Prelude.{nat_lt}
+use Rattle.std.proofs.lemmas.Bool.Decides.{nat_tests}
 use Rattle.spd_cons_core.specs.declared.key.Entry.{Entry}
 use Rattle.spd_nodes.specs.declared.leaf.Leaf.{Leaf}
 use Rattle.spd_nodes.specs.declared.leaf.Leaf.TheVariants.{Act}
@@ -13,12 +14,13 @@ use Rattle.spd_nodes.specs.Shown.{Shown, IsSound, IsViewOf}
 use Rattle.spd_nodes.proofs.RankLaws.{rank-from, rank-at}
 use Rattle.spd_nodes.proofs.TreeLaws.{tree_eq-true, after_above}
 use Rattle.spd_apply.specs.declared.rule.Below.TheVariants as B
-use Rattle.spd_apply.specs.Halves.{yes_at, no_at, AreLeaves, pair_rank}
+use Rattle.spd_apply.specs.Halves.{yes_at, no_at, AreLeaves, IsNotBefore, IsAligned, pair_rank}
 use Rattle.spd_apply.specs.Applied.{applied, fit_mark, AllFit, MayApply}
-use Rattle.spd_apply.specs.Rules.{PlansTest}
+use Rattle.spd_apply.specs.Rules.{Making, PlansTest}
 use Rattle.spd_apply.specs.Views.{lower_of_views, next_yes, next_no}
 use Rattle.spd_apply.proofs.HalfLaws.{Splits}
-use Rattle.spd_apply.proofs.AppliedLaws.{top_of, Meets, meets-cases, Descends, descends}
+use Rattle.spd_apply.proofs.MeetingLaws.{top_of, Meets, meets-cases, GoesDown, Descends, descends}
+use Rattle.spd_apply.proofs.AppliedLaws.{applied-goes}
 
 -- an entry that is known, with its tree
 pub record Known (s : Shown) (r : Entry) (t : Tree) : Type 0 where
@@ -90,18 +92,44 @@ fit-leaves fits x y h = go (fits x y) h
     go true e = refl
     go false e = absurd (cc e)
 
-module _ (fits : Leaf → Leaf → Bool) (op : Leaf → Leaf → Leaf) (s : Shown) (o : IsSound s) (f g : Entry) (kf : s.knows f ≡ true) (kg : s.knows g ≡ true) (may : MayApply fits s.sizes (s.tree f) (s.tree g)) where
+-- where one of two views tests a level first, no tree is before it
+pub lower-first : (s : Shown) (a b : View) (f g : Entry) (l : Level) → IsViewOf s f a → IsViewOf s g b → lower_of_views a b ≡ Some l → IsNotBefore l.0 (s.tree f) × IsNotBefore l.0 (s.tree g)
+lower-first s (V.Leaf a) (V.Leaf b) f g l h i e = absurd (cc e)
+lower-first s (V.Leaf a) (V.Test k v n) f g l h i e =
+    let p : k ≡ l = cc in
+    rw (h, i.0, p) (tt, omega arith)
+lower-first s (V.Test j y n) (V.Leaf a) f g l h i e =
+    let p : j ≡ l = cc in
+    rw (h.0, i, p) (omega arith, tt)
+lower-first s (V.Test j y n) (V.Test k v w) f g l h i e = rw (h.0, i.0) (go (nat_lt k.0 j.0) refl (cc))
+  where
+    go : (t : Bool) → nat_lt k.0 j.0 ≡ t → cond t k j ≡ l → (l.0 ≤ j.0) × (l.0 ≤ k.0)
+    go true q p = (let r : k.0 ≡ l.0 = ap (λ (x : Level). x.0) p in grind (arith, nat_tests), let r : k.0 ≡ l.0 = ap (λ (x : Level). x.0) p in omega arith)
+    go false q p = (let r : j.0 ≡ l.0 = ap (λ (x : Level). x.0) p in omega arith, let r : j.0 ≡ l.0 = ap (λ (x : Level). x.0) p in grind (arith, nat_tests))
+
+-- where no view tests a level, both trees are leaves
+pub lower-none : (s : Shown) (a b : View) (f g : Entry) → IsViewOf s f a → IsViewOf s g b → lower_of_views a b ≡ None → AreLeaves (s.tree f) (s.tree g)
+lower-none s (V.Leaf a) (V.Leaf b) f g h i e = rw (h, i) tt
+lower-none s (V.Leaf a) (V.Test l v m) f g h i e = absurd (cc e)
+lower-none s (V.Test k v m) (V.Leaf b) f g h i e = absurd (cc e)
+lower-none s (V.Test k v m) (V.Test l w n) f g h i e = absurd (cc e)
+
+-- How an operation that goes down goes on from two entries before its level, if it may meet their halves.
+module _ (making : Making) (may : Tree → Tree → Type 0) (stop : ℕ) (s : Shown) (o : IsSound s) (f g : Entry) (kf : s.knows f ≡ true) (kg : s.knows g ≡ true)
+    (aligned : IsAligned (slots s.sizes) (s.tree f) (s.tree g)) (d : GoesDown (slots s.sizes) stop making) where
   abbrev ds : List ℕ
   ds = slots s.sizes
 
-  pub fit-ends : (x y : Leaf) → s.tree f ≡ Ends x → s.tree g ≡ Ends y → fits x y ≡ true
-  fit-ends x y h i = fit-leaves fits x y (rw (h, i) at may.fit)
+  -- it may meet the halves at a level
+  pub record MayMeetHalves (l : ℕ) : Type 0 where
+    pub yes : may (yes_at l (s.tree f)) (yes_at l (s.tree g))
+    pub no : may (no_at l (s.tree f)) (no_at l (s.tree g))
 
-  plans-from : (l : ℕ) (fy fn gy gn : Entry) → Meets ds l (s.tree f) (s.tree g) → Known s fy (yes_at l (s.tree f)) → Known s fn (no_at l (s.tree f)) → Known s gy (yes_at l (s.tree g)) → Known s gn (no_at l (s.tree g))
-      → PlansTest (applied op) (MayApply fits s.sizes) s f g l (B.Pair fy gy) (B.Pair fn gn)
-  plans-from l fy fn gy gn m a b c d =
-      let w : Descends ds l (yes_at l (s.tree f)) (no_at l (s.tree f)) (yes_at l (s.tree g)) (no_at l (s.tree g)) = descends ds l (s.tree f) (s.tree g) (o.reduced f kf) (o.reduced g kg) m in
-      let both : AllFit fits (yes_at l (s.tree f)) (yes_at l (s.tree g)) × AllFit fits (no_at l (s.tree f)) (no_at l (s.tree g)) = join-ends l _ _ (Act 1) (sym (m.is_join (fit_mark fits)) ∙ may.fit) in
+  plans-from : (l : ℕ) (fy fn gy gn : Entry) → l < stop → Meets ds l (s.tree f) (s.tree g) → MayMeetHalves l
+      → Known s fy (yes_at l (s.tree f)) → Known s fn (no_at l (s.tree f)) → Known s gy (yes_at l (s.tree g)) → Known s gn (no_at l (s.tree g))
+      → PlansTest making may s f g l (B.Pair fy gy) (B.Pair fn gn)
+  plans-from l fy fn gy gn h m halves a b c e =
+      let w : Descends ds l making (yes_at l (s.tree f)) (no_at l (s.tree f)) (yes_at l (s.tree g)) (no_at l (s.tree g)) = descends ds stop making d l (s.tree f) (s.tree g) h m in
       let ry = half-yes ds l (s.tree f) m.level m.left in
       let rz = half-yes ds l (s.tree g) m.level m.right in
       let rn = half-no ds l (s.tree f) m.level m.left in
@@ -109,17 +137,38 @@ module _ (fits : Leaf → Leaf → Bool) (op : Leaf → Leaf → Leaf) (s : Show
       let top = one-rank ds l (s.tree f) (s.tree g) m.one_at in
       record {
         level_in = m.level;
-        is = rw (a.tree, b.tree, c.tree, d.tree) (m.is_join op);
-        can_test = rw (a.tree, b.tree, c.tree, d.tree) (w.can_test op);
-        yes_goes = record { left = a.knows; right = c.knows; trees = rw (a.tree, c.tree) (record { aligned = w.aligned_yes; fit = both.0 }) };
-        no_goes = record { left = b.knows; right = d.knows; trees = rw (b.tree, d.tree) (record { aligned = w.aligned_no; fit = both.1 }) };
+        is = rw (a.tree, b.tree, c.tree, e.tree) (d.is_join l (s.tree f) (s.tree g) h m.left_from m.right_from m.one_at);
+        can_test = rw (a.tree, b.tree, c.tree, e.tree) w.can_test;
+        yes_goes = record { left = a.knows; right = c.knows; trees = rw (a.tree, c.tree) halves.yes };
+        no_goes = record { left = b.knows; right = e.knows; trees = rw (b.tree, e.tree) halves.no };
         yes_smaller = rw (a.tree, c.tree) (omega (arith, ry, rz, top));
-        no_smaller = rw (b.tree, d.tree) (omega (arith, rn, rm, top));
+        no_smaller = rw (b.tree, e.tree) (omega (arith, rn, rm, top));
       }
 
-  pub plans-at : (a b : View) (l : Level) → IsViewOf s f a → IsViewOf s g b → lower_of_views a b ≡ Some l
-      → PlansTest (applied op) (MayApply fits s.sizes) s f g l.0 (B.Pair (next_yes a f l) (next_yes b g l)) (B.Pair (next_no a f l) (next_no b g l))
-  plans-at a b l h i e =
-      plans-from l.0 (next_yes a f l) (next_no a f l) (next_yes b g l) (next_no b g l)
-      (top-of s a b f g l h i e (meets-cases ds (s.tree f) (s.tree g) (o.reduced f kf) (o.reduced g kg) may.aligned))
+  pub plans-at : (a b : View) (l : Level) → IsViewOf s f a → IsViewOf s g b → lower_of_views a b ≡ Some l → l.0 < stop → (Meets ds l.0 (s.tree f) (s.tree g) → MayMeetHalves l.0)
+      → PlansTest making may s f g l.0 (B.Pair (next_yes a f l) (next_yes b g l)) (B.Pair (next_no a f l) (next_no b g l))
+  plans-at a b l h i e below halves =
+      let m : Meets ds l.0 (s.tree f) (s.tree g) = top-of s a b f g l h i e (meets-cases ds (s.tree f) (s.tree g) (o.reduced f kf) (o.reduced g kg) aligned) in
+      plans-from l.0 (next_yes a f l) (next_no a f l) (next_yes b g l) (next_no b g l) below m (halves m)
       (next_yes-is s a f l kf h) (next_no-is s a f l kf h) (next_yes-is s b g l kg i) (next_no-is s b g l kg i)
+
+module _ (fits : Leaf → Leaf → Bool) (op : Leaf → Leaf → Leaf) (s : Shown) (o : IsSound s) (f g : Entry) (kf : s.knows f ≡ true) (kg : s.knows g ≡ true) (may : MayApply fits s.sizes (s.tree f) (s.tree g)) where
+  abbrev slots_of : List ℕ
+  slots_of = slots s.sizes
+
+  pub fit-ends : (x y : Leaf) → s.tree f ≡ Ends x → s.tree g ≡ Ends y → fits x y ≡ true
+  fit-ends x y h i = fit-leaves fits x y (rw (h, i) at may.fit)
+
+  -- the leaves of the halves fit
+  fit-halves : (l : ℕ) → Meets slots_of l (s.tree f) (s.tree g) → MayMeetHalves (applied op) (MayApply fits s.sizes) (levels_of slots_of) s o f g kf kg may.aligned (applied-goes slots_of op) l
+  fit-halves l m =
+      let w = descends slots_of (levels_of slots_of) (applied (fit_mark fits)) (applied-goes slots_of (fit_mark fits)) l (s.tree f) (s.tree g) m.level m in
+      let is = (applied-goes slots_of (fit_mark fits)).is_join l (s.tree f) (s.tree g) m.level m.left_from m.right_from m.one_at in
+      let both : AllFit fits (yes_at l (s.tree f)) (yes_at l (s.tree g)) × AllFit fits (no_at l (s.tree f)) (no_at l (s.tree g)) = join-ends l _ _ (Act 1) (sym is ∙ may.fit) in
+      record { yes = record { aligned = w.aligned_yes; fit = both.0 }; no = record { aligned = w.aligned_no; fit = both.1 } }
+
+  pub applies-at : (a b : View) (l : Level) → IsViewOf s f a → IsViewOf s g b → lower_of_views a b ≡ Some l
+      → PlansTest (applied op) (MayApply fits s.sizes) s f g l.0 (B.Pair (next_yes a f l) (next_yes b g l)) (B.Pair (next_no a f l) (next_no b g l))
+  applies-at a b l h i e =
+      let m : Meets slots_of l.0 (s.tree f) (s.tree g) = top-of s a b f g l h i e (meets-cases slots_of (s.tree f) (s.tree g) (o.reduced f kf) (o.reduced g kg) may.aligned) in
+      plans-at (applied op) (MayApply fits s.sizes) (levels_of slots_of) s o f g kf kg may.aligned (applied-goes slots_of op) a b l h i e m.level (fit-halves l.0)

@@ -46,10 +46,10 @@ module _ (fits : Leaf → Leaf → Bool) (op : Leaf → Leaf → Leaf) (s : Show
   apply-value = record { at = λ x y i j. value_at-applied ds 0 op (s.tree f) (s.tree g) (point x y) }
 
   pub apply-reduced : IsReduced ds 0 (applied op (s.tree f) (s.tree g))
-  apply-reduced = (applied-whole ds op (s.tree f) (s.tree g) (o.reduced f kf) (o.reduced g kg) 0 wf wg).0
+  apply-reduced = (applied-whole ds op (s.tree f) (s.tree g) (o.reduced f kf) (o.reduced g kg) wf wg).0
 
   pub apply-whole : IsFrom ds 0 0 (applied op (s.tree f) (s.tree g))
-  apply-whole = (applied-whole ds op (s.tree f) (s.tree g) (o.reduced f kf) (o.reduced g kg) 0 wf wg).1
+  apply-whole = (applied-whole ds op (s.tree f) (s.tree g) (o.reduced f kf) (o.reduced g kg) wf wg).1
 
   all-fit : FitEverywhere fits s f g → AllFit fits (s.tree f) (s.tree g)
   all-fit h =

@@ -1,7 +1,7 @@
 -- A tree where a test holds, and where it doesn't.
-use Rattle.std.specs.Prelude.{◌≡◌, ℕ, ◌<◌, ◌⊎◌, ◌==◌, cond, List, max}
+use Rattle.std.specs.Prelude.{◌≡◌, ℕ, ◌<◌, ◌≤◌, ◌⊎◌, ◌==◌, cond, List, max}
 use Rattle.spd_nodes.specs.Levels.{after}
-use Rattle.spd_nodes.specs.Trees.{Tree, Ends, Tests, IsFrom, tree_rank}
+use Rattle.spd_nodes.specs.Trees.{Tree, Ends, Tests, IsFrom, IsAt, tree_rank}
 
 -- a tree where a level's test holds, if it tests that level first, else the tree
 abbrev pub yes_at : ℕ → Tree → Tree
@@ -22,6 +22,15 @@ IsLeaf (Tests l y n) = ⊥
 abbrev pub AreLeaves : Tree → Tree → Type 0
 AreLeaves (Ends a) u = IsLeaf u
 AreLeaves (Tests l y n) u = ⊥
+
+-- the root of a tree isn't before a level
+abbrev pub IsNotBefore : ℕ → Tree → Type 0
+IsNotBefore l (Ends a) = Unit {0}
+IsNotBefore l (Tests k y n) = l ≤ k
+
+-- a tree whose root tests this level, or that is past the level's slot
+abbrev pub Fits : List ℕ → ℕ → Tree → Type 0
+Fits ds l t = IsFrom ds 0 (after ds l) t ⊎ IsAt l t
 
 -- two trees that an operation may meet: where both roots test one slot, they test one level
 abbrev pub IsAligned : List ℕ → Tree → Tree → Type 0

@@ -1,4 +1,5 @@
 pub mod CofactorLaws
 pub mod FixedLaws
 pub mod PrimedLaws
+pub mod ReplacedLaws
 pub mod SlotLaws

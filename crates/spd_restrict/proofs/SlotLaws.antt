@@ -47,6 +47,17 @@ first-in (d ∷ ds) (suc slot) first end l s g h f =
     let i : l - (d - 1) ≡ first - (d - 1) = first-in ds slot (first - (d - 1)) (end - (d - 1)) (l - (d - 1)) (slot-tail d ds slot first end s) (omega arith) (omega (arith, s.first_is)) q in
     omega (arith, s.first_is)
 
+-- its first level tests a first value
+pub first-is : (ds : List ℕ) (slot first end : ℕ) → IsSlot ds slot first end → first < end → is_first ds first ≡ true
+first-is [] slot first end s h = absurd (omega (arith, s.slot_in))
+first-is (d ∷ ds) zero first end s h =
+    let z : first ≡ 0 = s.first_is in
+    let e : nat_lt 0 (d - 1) ≡ true = grind (arith, nat_tests, s.end_is) in
+    rw (z, e) refl
+first-is (d ∷ ds) (suc slot) first end s h =
+    let e : nat_lt first (d - 1) ≡ false = grind (arith, nat_tests, s.first_is) in
+    rw (e, first-is ds slot (first - (d - 1)) (end - (d - 1)) (slot-tail d ds slot first end s) (omega (arith, s.first_is, s.end_is))) refl
+
 -- inside the slot, a point with the slot at a value passes the test of that value alone
 pub passes-in : (ds : List ℕ) (slot first end l value : ℕ) (p : List ℕ) → IsSlot ds slot first end → first ≤ l → l < end → InRange ds p → passes ds l (set p slot value) ≡ (value == l - first)
 passes-in [] slot first end l value p s g h i = absurd (omega (arith, s.slot_in))

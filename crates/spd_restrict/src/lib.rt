@@ -1,6 +1,7 @@
 //! A diagram with a variable's value held fixed, with its plain names primed, and chosen by a variable's value.
 #![tactic(auto)]
 
+pub mod branch;
 pub mod fixed;
 pub mod next;
 
