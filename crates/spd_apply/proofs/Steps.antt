@@ -37,10 +37,10 @@ module _ (making : Making) (s t : Shown) (b : Below) (g : Grows s t) where
             rw (left, right, g.sizes) refl,
           )
 
-within-yes : (l : ℕ) (y n : Tree) → Within (y ∷ []) (join l y n ∷ [])
+pub within-yes : (l : ℕ) (y n : Tree) → Within (y ∷ []) (join l y n ∷ [])
 within-yes l y n = within-one y (join l y n ∷ []) (λ x h. inl (in-yes x y n l h))
 
-within-no : (l : ℕ) (y n : Tree) → Within (n ∷ []) (join l y n ∷ [])
+pub within-no : (l : ℕ) (y n : Tree) → Within (n ∷ []) (join l y n ∷ [])
 within-no l y n = within-one n (join l y n ∷ []) (λ x h. inl (in-no x y n l h))
 
 module _ (making : Making) (may : Tree → Tree → Type 0) (s : Shown) (f g : Entry) (l : ℕ) (yes no : Below) (k : Kept)

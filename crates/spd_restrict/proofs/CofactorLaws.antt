@@ -6,7 +6,8 @@ use Rattle.spd_nodes.specs.Levels.{levels_of, passes, after, InRange}
 use Rattle.spd_nodes.specs.Trees.{Tree, Ends, Tests, value_at, IsFrom, IsAt, IsReduced, CanTest, join}
 use Rattle.spd_nodes.proofs.TreeLaws.{after_above}
 use Rattle.spd_nodes.proofs.ValueLaws.{value_at-join}
-use Rattle.spd_apply.proofs.HalfLaws.{Fits, after-next, first0, level_of-reduced, Joins, joins, IsFrom-at, IsFrom-lower, after0}
+use Rattle.spd_apply.specs.Halves.{Fits}
+use Rattle.spd_apply.proofs.HalfLaws.{after-next, first0, level_of-reduced, Joins, joins, IsFrom-at, IsFrom-lower, after0}
 use Rattle.spd_restrict.specs.Restricted.{cofactored, IsSlot, IsUpTo}
 use Rattle.spd_restrict.proofs.SlotLaws.{after-in, after-before, first-in, passes-in, passes-before, passes-past}
 

@@ -1,3 +1,5 @@
+pub mod BranchLaws
+pub mod ChosenLaws
 pub mod CofactorLaws
 pub mod FixedLaws
 pub mod PrimedLaws

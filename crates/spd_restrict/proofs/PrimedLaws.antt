@@ -14,7 +14,8 @@ use Rattle.spd_nodes.proofs.TreeLaws.{after_above}
 use Rattle.spd_nodes.proofs.ValueLaws.{value_at-join}
 use Rattle.spd_apply.specs.declared.rule.Below.TheVariants as B
 use Rattle.spd_apply.specs.Rules.{Making, PlansBelow, PlansTest}
-use Rattle.spd_apply.proofs.HalfLaws.{Fits, after-next, first0, Joins, joins, IsFrom-at, IsFrom-lower}
+use Rattle.spd_apply.specs.Halves.{Fits}
+use Rattle.spd_apply.proofs.HalfLaws.{after-next, first0, Joins, joins, IsFrom-at, IsFrom-lower}
 use Rattle.spd_restrict.specs.Primed.{primed, is_plain_level, primed_level, TestsNoPrimed, primed_tree, MayPrime}
 use Rattle.spd_restrict.proofs.CofactorLaws.{Parts, parts}
 

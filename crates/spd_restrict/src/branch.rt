@@ -81,3 +81,97 @@ impl Rule for AtOneValue {
         replace_after(forest, self.value, Level(self.first), f, g, steps)
     }
 }
+
+/// One diagram at one value of a variable's next value (primed) or present one, which isn't its last, and another one
+/// elsewhere. It makes only nodes of its answer.
+fn replace<F: Forest, L: Ledger>(
+    alloc: Global,
+    forest: &mut F,
+    var: u32,
+    primed: bool,
+    value: u8,
+    f: Ref,
+    g: Ref,
+    steps: &mut Steps<L>,
+) -> Result<Ref, OpFault>
+    requires left { (F.shows forest.old).knows f ≡ true }
+    requires right { (F.shows forest.old).knows g ≡ true }
+    requires left_whole { IsWhole (F.shows forest.old) f }
+    requires right_whole { IsWhole (F.shows forest.old) g }
+    requires var { var < length (F.shows forest.old).sizes }
+    requires value { value + 1 < slice_index (F.shows forest.old).sizes var }
+    ensures sound { IsSound (F.shows forest.new) }
+    ensures grows { Grows (F.shows forest.old) (F.shows forest.new) }
+    ensures keeps { F.kept forest.new ≡ F.kept forest.old }
+    ensures ok { IfOk result (λ r. StandsFor (F.shows forest.new) r (replaced_at var primed value (meaning (F.shows forest.old) f) (meaning (F.shows forest.old) g))) }
+    ensures makes { MakesNodesOf (F.shows forest.old) (F.shows forest.new) (replaced_at var primed value (meaning (F.shows forest.old) f) (meaning (F.shows forest.old) g) ∷ []) }
+    ensures fault { IfErr result (λ e. FaultsAt e (F.shows forest.new) (replaced_at var primed value (meaning (F.shows forest.old) f) (meaning (F.shows forest.old) g) ∷ [])) }
+{
+    let (first, _) = forest.layout().tests(var, primed);
+    let rule = AtOneValue {
+        first,
+        value: value as u16,
+    };
+    make_alone(alloc, forest, &rule, f, g, steps)
+}
+
+/// The kid of the variable's value where that is at least `value`, and the last kid elsewhere. Calls nest at most 64 deep.
+fn choose_from<F: Forest, L: Ledger>(
+    alloc: Global,
+    forest: &mut F,
+    var: u32,
+    primed: bool,
+    kids: &[Ref],
+    value: usize,
+    steps: &mut Steps<L>,
+) -> Result<Ref, OpFault>
+    requires known { All (λ k. (F.shows forest.old).knows k ≡ true) kids.now }
+    requires whole { All (λ k. IsWhole (F.shows forest.old) k) kids.now }
+    requires var { var < length (F.shows forest.old).sizes }
+    requires count { length kids.now ≡ slice_index (F.shows forest.old).sizes var }
+    requires value { value < length kids.now }
+    ensures sound { IsSound (F.shows forest.new) }
+    ensures grows { Grows (F.shows forest.old) (F.shows forest.new) }
+    ensures keeps { F.kept forest.new ≡ F.kept forest.old }
+    ensures ok { IfOk result (λ r. StandsFor (F.shows forest.new) r (chosen_from value var primed (map (meaning (F.shows forest.old)) kids.now))) }
+    ensures makes { MakesNodesOf (F.shows forest.old) (F.shows forest.new) (branch_functions var primed (map (meaning (F.shows forest.old)) kids.now)) }
+    ensures fault { IfErr result (λ e. FaultsAt e (F.shows forest.new) (branch_functions var primed (map (meaning (F.shows forest.old)) kids.now))) }
+{
+    let _ = forest.layout();
+    let kid = kids[value];
+    if value + 1 == kids.len() {
+        return Ok(kid);
+    }
+    let rest = choose_from(alloc, forest, var, primed, kids, value + 1, steps)?;
+    replace(alloc, forest, var, primed, value as u8, kid, rest, steps)
+}
+
+/// The diagram of the kid of a variable's next value (primed) or present one, at each state; there is one kid for each value,
+/// in order.
+///
+/// It makes only nodes of its answer and of the functions on the way: for each value, the kid of the variable's value where
+/// that is at least this one, and the last kid elsewhere. Full comes only where a call of the forest answered Full in this
+/// call. Calls nest at most three deep a level and 64 in all besides, and there are at most 512 levels.
+pub fn choose<F: Forest, L: Ledger>(
+    alloc: Global,
+    forest: &mut F,
+    var: u32,
+    primed: bool,
+    kids: &[Ref],
+    steps: &mut Steps<L>,
+) -> Result<Ref, OpFault>
+    requires known { All (λ k. (F.shows forest.old).knows k ≡ true) kids.now }
+    requires whole { All (λ k. IsWhole (F.shows forest.old) k) kids.now }
+    requires var { var < length (F.shows forest.old).sizes }
+    requires count { length kids.now ≡ slice_index (F.shows forest.old).sizes var }
+
+    ensures sound { IsSound (F.shows forest.new) }
+    ensures grows { Grows (F.shows forest.old) (F.shows forest.new) }
+    ensures keeps { F.kept forest.new ≡ F.kept forest.old }
+    ensures ok { IfOk result (λ r. StandsFor (F.shows forest.new) r (chosen var primed (map (meaning (F.shows forest.old)) kids.now))) }
+    ensures makes { MakesNodesOf (F.shows forest.old) (F.shows forest.new) (branch_functions var primed (map (meaning (F.shows forest.old)) kids.now)) }
+    ensures fault { IfErr result (λ e. FaultsAt e (F.shows forest.new) (branch_functions var primed (map (meaning (F.shows forest.old)) kids.now))) }
+{
+    let _ = forest.layout();
+    choose_from(alloc, forest, var, primed, kids, 0, steps)
+}

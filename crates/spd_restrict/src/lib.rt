@@ -5,6 +5,7 @@ pub mod branch;
 pub mod fixed;
 pub mod next;
 
+pub use branch::choose;
 pub use fixed::cofactor;
 pub use next::prime;
 
