@@ -153,7 +153,7 @@ module _ (s : Shown) (o : IsSound s) (var : ℕ) (primed : Bool) (kids : List En
   kid-whole i b = All-get_or (λ k. IsWhole s k) kids i d b whole
 
   length-fs : length fs ≡ length kids
-  length-fs = length-map (meaning s) kids
+  length-fs = length-map kids (meaning s)
 
   pub count-small : length kids ≤ 64
   count-small = omega (arith, count, (All-get_or (λ n. (0 < n) × (n ≤ 64)) s.sizes var 0 h o.layout.values).1)

@@ -34,12 +34,22 @@ module _ (first value : ℕ) (s : Shown) (o : IsSound s) (f g : Entry) (kf : s.k
       let z : after ds l ≤ first = after-before ds may.slot first may.end l may.is_slot b in
       record {
         yes = record {
-          slot = may.slot; end = may.end; is_slot = may.is_slot; value_in = may.value_in; aligned = w.aligned_yes;
-          left = whole-from ds first (after ds l) (yes_at l (s.tree f)) m.left.yes_from; right = whole-from ds first (after ds l) (yes_at l (s.tree g)) m.right.yes_from;
+          slot = may.slot;
+          end = may.end;
+          is_slot = may.is_slot;
+          value_in = may.value_in;
+          aligned = w.aligned_yes;
+          left = whole-from ds first (after ds l) (yes_at l (s.tree f)) m.left.yes_from;
+          right = whole-from ds first (after ds l) (yes_at l (s.tree g)) m.right.yes_from;
         };
         no = record {
-          slot = may.slot; end = may.end; is_slot = may.is_slot; value_in = may.value_in; aligned = w.aligned_no;
-          left = no-whole z (no_at l (s.tree f)) m.left.no_fits; right = no-whole z (no_at l (s.tree g)) m.right.no_fits;
+          slot = may.slot;
+          end = may.end;
+          is_slot = may.is_slot;
+          value_in = may.value_in;
+          aligned = w.aligned_no;
+          left = no-whole z (no_at l (s.tree f)) m.left.no_fits;
+          right = no-whole z (no_at l (s.tree g)) m.right.no_fits;
         };
       }
     where
