@@ -24,4 +24,6 @@ pub use rule::{Below, OpFault, Plan, Rule};
 pub use unary::{EachLeaf, map_leaves};
 
 #[cfg(test)]
+mod leaves_tests;
+#[cfg(test)]
 mod tests;
