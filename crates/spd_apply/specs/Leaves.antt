@@ -1,5 +1,5 @@
 -- The leaves of a function.
-use Rattle.std.specs.Prelude.{◌≡◌, ℕ, ◌==◌, ◌&&◌, ◌||◌, Bool, true, false, nat_lt, int_lt, List, All, Contains}
+use Rattle.std.specs.Prelude.{◌≡◌, ℕ, ◌&&◌, ◌||◌, Bool, true, false, nat_lt, int_lt, List, Contains}
 use Rattle.std.specs.List.{AllPairs}
 use Rattle.std.specs.Ordering.{int_eq}
 use Rattle.spd_nodes.specs.declared.leaf.Leaf.{Leaf}

@@ -1,9 +1,8 @@
-use Rattle.std.proofs.Common.{◌≡◌, ◌+◌, true, List, [], length, take, get_or, sym, ◌∙◌, ap, subst, arith, ℕ}
+use Rattle.std.proofs.Common.{◌≡◌, true, List, length, take, get_or, sym, ◌∙◌, ap, subst, arith, ℕ}
 use Rattle.std.specs.Prelude.{Contains}
 use Rattle.std.proofs.Math.Seq.{take-length}
 use Rattle.std.proofs.lemmas.List.Elements.{Contains-get_or}
 use Rattle.spd_cons_core.specs.declared.key.Entry.{Entry}
-use Rattle.spd_nodes.specs.declared.leaf.Leaf.{Leaf}
 use Rattle.spd_nodes.specs.Trees.{Ends, Tests}
 use Rattle.spd_nodes.specs.Shown.{Shown}
 use Rattle.spd_nodes.specs.Refs.{IsReached}
