@@ -1,6 +1,7 @@
 pub mod AppliedLaws
 pub mod CeilingLaws
 pub mod HalfLaws
+pub mod LeavesLaws
 pub mod MapLaws
 pub mod MeetingLaws
 pub mod MemoLaws

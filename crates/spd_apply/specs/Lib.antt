@@ -1,5 +1,6 @@
 pub mod Applied
 pub mod Halves
+pub mod Leaves
 pub mod Operations
 pub mod Outcome
 pub mod Rounding

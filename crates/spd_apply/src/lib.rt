@@ -3,6 +3,7 @@
 
 pub mod binary;
 pub mod leaf_op;
+pub mod leaves;
 pub mod make;
 pub mod maps;
 pub mod operations;
@@ -13,6 +14,7 @@ pub mod unary;
 
 pub use binary::apply;
 pub use leaf_op::{LeafMap, LeafOp};
+pub use leaves::leaves_of;
 pub use make::{make_alone, make_pair};
 pub use maps::{ActNum, First, Second, SecondAct};
 pub use operations::{Add, Keep, MakePair, Max, Min, Mul, PickFirst, Sub};
@@ -21,5 +23,7 @@ pub use rounding::{CeilBy, FloorBy, TimesCeil, TimesFloor};
 pub use rule::{Below, OpFault, Plan, Rule};
 pub use unary::{EachLeaf, map_leaves};
 
+#[cfg(test)]
+mod leaves_tests;
 #[cfg(test)]
 mod tests;
