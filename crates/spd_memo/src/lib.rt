@@ -58,3 +58,6 @@ impl Memo {
         Ok(())
     }
 }
+
+#[cfg(test)]
+mod tests;

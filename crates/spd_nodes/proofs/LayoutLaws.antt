@@ -1,5 +1,6 @@
 -- Sums of tests, and the levels of the slots.
-use Rattle.std.proofs.Common.{◌≡◌, ℕ, zero, suc, ◌+◌, ◌-◌, ◌*◌, ◌<◌, ◌≤◌, true, false, List, [], ◌∷◌, length, get_or, take, refl, ◌∙◌, arith}
+use Rattle.std.proofs.Common.{◌≡◌, ℕ, zero, suc, ◌+◌, ◌-◌, ◌*◌, ◌<◌, ◌≤◌, ◌⊎◌, inl, inr, Bool, true, false, List, [], ◌∷◌, length, get_or, take, refl, ◌∙◌, subst, arith}
+use Rattle.std.proofs.lemmas.List.{take-take}
 use Rattle.spd_nodes.specs.Levels.{levels_of, slots, level_at, IsTestOf}
 use Rattle.spd_nodes.specs.Limits.{IsLayout}
 use Rattle.spd_nodes.proofs.StateLaws.{levels_of-slots}
@@ -60,3 +61,59 @@ test-primed ds var level rest h e q = record { var_in = h; value_in = omega arit
 
 pub test-plain : (ds : List ℕ) (var level rest : ℕ) → var < length ds → rest + 2 * levels_of (take var ds) ≡ level → get_or ds var 0 - 1 ≤ rest → rest < 2 * (get_or ds var 0 - 1) → IsTestOf ds level var false (rest - (get_or ds var 0 - 1))
 test-plain ds var level rest h e p q = record { var_in = h; value_in = omega arith; level_is = level-plain ds var (rest - (get_or ds var 0 - 1)) h ∙ omega arith }
+
+levels_below : (a b : ℕ) (ds : List ℕ) → a ≤ b → levels_of (take a ds) ≤ levels_of (take b ds)
+levels_below a b ds h = subst (λ xs. levels_of xs ≤ levels_of (take b ds)) (take-take a b ds h) (levels-take a (take b ds))
+
+-- a variable's levels stand between those of the variables before it and after it
+levels-between : (ds : List ℕ) (level var : ℕ) (primed : Bool) (value : ℕ) → IsTestOf ds level var primed value
+    → (2 * levels_of (take var ds) ≤ level) × (level < 2 * levels_of (take (var + 1) ds))
+levels-between ds level var true value h =
+    let at = level-primed ds var value in
+    let more = levels-more var ds h.var_in in
+    (omega (arith, at, more, h.level_is), omega (arith, at, more, h.level_is, h.value_in))
+levels-between ds level var false value h =
+    let at = level-plain ds var value h.var_in in
+    let more = levels-more var ds h.var_in in
+    (omega (arith, at, more, h.level_is), omega (arith, at, more, h.level_is, h.value_in))
+
+-- no two tests have one level
+pub one_test : (ds : List ℕ) (level var v : ℕ) (primed p : Bool) (value x : ℕ) → IsTestOf ds level var primed value → IsTestOf ds level v p x → (v ≡ var) × (p ≡ primed) × (x ≡ value)
+one_test ds level var v primed p value x h k = (same, kinds primed p h here, values primed p h here)
+  where
+    three : (a b : ℕ) → (a < b) ⊎ (a ≡ b) ⊎ (b < a)
+    three a b = grind arith
+
+    apart : (a b : ℕ) (m n : Bool) (i j : ℕ) → IsTestOf ds level a m i → IsTestOf ds level b n j → a < b → ⊥
+    apart a b m n i j f g q =
+        let low = levels-between ds level b n j g in
+        let high = levels-between ds level a m i f in
+        let more : levels_of (take (a + 1) ds) ≤ levels_of (take b ds) = levels_below (a + 1) b ds (omega arith) in
+        omega (arith, low.0, high.1)
+
+    same : v ≡ var
+    same = elim (three v var) [
+      | inl q ↦ absurd (apart v var p primed x value k h q)
+      | inr q ↦ elim q [ inl e ↦ e | inr u ↦ absurd (apart var v primed p value x h k u) ]
+    ]
+
+    here : IsTestOf ds level var p x
+    here = subst (λ n. IsTestOf ds level n p x) same k
+
+    kinds : (m n : Bool) → IsTestOf ds level var m value → IsTestOf ds level var n x → n ≡ m
+    kinds true true f g = refl
+    kinds false false f g = refl
+    kinds true false f g =
+        let a = level-primed ds var value in
+        let b = level-plain ds var x g.var_in in
+        absurd (omega (arith, a, b, f.level_is, g.level_is, f.value_in))
+    kinds false true f g =
+        let a = level-plain ds var value f.var_in in
+        let b = level-primed ds var x in
+        absurd (omega (arith, a, b, f.level_is, g.level_is, g.value_in))
+
+    values : (m n : Bool) → IsTestOf ds level var m value → IsTestOf ds level var n x → x ≡ value
+    values true true f g = let a = level-primed ds var value in let b = level-primed ds var x in omega (arith, a, b, f.level_is, g.level_is)
+    values false false f g = let a = level-plain ds var value f.var_in in let b = level-plain ds var x f.var_in in omega (arith, a, b, f.level_is, g.level_is)
+    values true false f g = let e = kinds true false f g in absurd (cc e)
+    values false true f g = let e = kinds false true f g in absurd (cc e)

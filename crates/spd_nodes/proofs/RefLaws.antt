@@ -1,11 +1,13 @@
 -- Lists of entries that are reached from one, and their number.
-use Rattle.std.proofs.Common.{◌≡◌, ℕ, zero, suc, ◌<◌, ◌⊎◌, inl, inr, Bool, true, false, List, [], ◌∷◌, ◌++◌, length, get_or, map, refl, sym, ◌∙◌, ap, subst, arith, true≢false, if◌then◌else◌, IsTrue}
+use Rattle.std.proofs.Common.{◌≡◌, ℕ, zero, suc, ◌+◌, ◌<◌, ◌⊎◌, inl, inr, Bool, true, false, List, [], ◌∷◌, ◌++◌, length, length-append, get_or, take, map, refl, sym, ◌∙◌, ap, subst, arith, true≢false, if◌then◌else◌, IsTrue}
 use Rattle.std.specs.Prelude.{Contains}
 use Rattle.std.specs.List.{IsDistinct, list_any}
 use Rattle.std.specs.Set.{is_member}
 use Rattle.std.specs.Cmp.{IsEquivalence}
 use Rattle.std.proofs.lemmas.Bool.Decides.{Decides-eqb}
-use Rattle.std.proofs.lemmas.List.{length-map, get_or-map}
+use Rattle.std.proofs.Math.ListN.{get_or-append}
+use Rattle.std.proofs.Math.Seq.{get_or-append_seam, take-append_seam}
+use Rattle.std.proofs.lemmas.List.{length-map, get_or-map, take-append-le}
 use Rattle.std.proofs.lemmas.List.Elements.{Contains-get_or, Contains-append_left, Contains-append_right, Contains-push, Contains-push_cases, Contains-append_cases}
 use Rattle.std.proofs.lemmas.Map.Keys.{IsDistinct-push, apart_from_distinct, IsDistinct-from_apart}
 use Rattle.std.proofs.lemmas.Map.Made.{length-from_keys}
@@ -14,7 +16,7 @@ use Rattle.spd_cons_core.specs.declared.key.Entry.{Entry}
 use Rattle.spd_nodes.specs.declared.leaf.Leaf.{Leaf}
 use Rattle.spd_nodes.specs.Trees.{Tree, Ends, Tests, tree_eq, IsNode, Itself, InYes, InNo, nodes_of}
 use Rattle.spd_nodes.specs.Shown.{Shown, IsSound}
-use Rattle.spd_nodes.specs.Refs.{entry_eq, AddsRef, HasTree, IsClosed, Visits, IsReached, node_count}
+use Rattle.spd_nodes.specs.Refs.{entry_eq, AddsRef, HasTree, HasChildren, ChildrenFirst, IsClosed, Visits, IsReached, node_count}
 use Rattle.spd_nodes.proofs.TreeLaws.{tree_eq-refl, tree_eq-true, tree_eq-false}
 
 -- a test that is equality is an equivalence
@@ -115,15 +117,33 @@ module _ (s : Shown) where
   pub visits-there : (refs : List Entry) (r : Entry) → IsClosed s refs → Contains refs r → Visits s refs refs r
   visits-there refs r c h = record { closed = c; kept = λ q k. k; found = h; only = λ q k. inl k }
 
-  -- an entry is added to a closed list that has all other nodes of its tree
-  visits-add : (old new : List Entry) (r : Entry) → s.knows r ≡ true → IsClosed s old → AddsRef old new r
+  -- children still stand first where the children of the new last entry stand in the list
+  order-push : (refs : List Entry) (r : Entry) → ChildrenFirst s refs → HasChildren s refs (s.tree r) → ChildrenFirst s (refs ++ r ∷ [])
+  order-push refs r o h i q j e = go (three i (length refs))
+    where
+      three : (a b : ℕ) → (a < b) ⊎ (a ≡ b) ⊎ (b < a)
+      three a b = grind arith
+
+      more : length (refs ++ r ∷ []) ≡ length refs + 1
+      more = length-append refs (r ∷ [])
+
+      go : (i < length refs) ⊎ (i ≡ length refs) ⊎ (length refs < i) → HasChildren s (take i (refs ++ r ∷ [])) (s.tree q)
+      go (inl u) = rw (take-append-le i refs (r ∷ []) (omega arith)) (o i q u (sym (get_or-append refs (r ∷ []) q i u) ∙ e))
+      go (inr (inl u)) =
+          let p : r ≡ q = sym (get_or-append_seam refs r [] q) ∙ ap (λ n. get_or (refs ++ r ∷ []) n q) (sym u) ∙ e in
+          subst (λ (v : Entry). HasChildren s (take i (refs ++ r ∷ [])) (s.tree v)) p (rw (u, take-append_seam refs (r ∷ [])) h)
+      go (inr (inr u)) = absurd (omega (arith, more))
+
+  -- an entry is added to a closed list that has its children and all other nodes of its tree
+  visits-add : (old new : List Entry) (r : Entry) → s.knows r ≡ true → IsClosed s old → AddsRef old new r → HasChildren s old (s.tree r)
       → ((x : Tree) → IsNode x (s.tree r) → (x ≡ s.tree r) ⊎ HasTree s old x) → Visits s old new r
-  visits-add old new r k c (inl a) h =
+  visits-add old new r k c (inl a) d h =
       subst (λ (v : List Entry). Visits s old v r) (sym a.0) (visits-there old r c a.1)
-  visits-add old new r k c (inr a) h = subst (λ (v : List Entry). Visits s old v r) (sym a.0) (record {
+  visits-add old new r k c (inr a) d h = subst (λ (v : List Entry). Visits s old v r) (sym a.0) (record {
     closed = record {
       distinct = IsDistinct-push entry_laws old r c.distinct (any-absent old r a.1);
       known = λ q m. elim (Contains-push_cases old r q m) [ inl u ↦ c.known q u | inr u ↦ subst (λ (v : Entry). s.knows v ≡ true) u k ];
+      order = order-push old r c.order d;
       nodes = λ q x m i. elim (Contains-push_cases old r q m) [
         | inl u ↦ more-trees old (old ++ r ∷ []) (λ p g. Contains-append_left old (r ∷ []) p g) x (c.nodes q x u i)
         | inr u ↦ with-last x (h x (subst (λ (v : Entry). IsNode x (s.tree v)) (sym u) i))
@@ -139,12 +159,14 @@ module _ (s : Shown) where
       with-last x (inr e) = more-trees old (old ++ r ∷ []) (λ p g. Contains-append_left old (r ∷ []) p g) x e
 
   pub visits-leaf : (old new : List Entry) (r : Entry) (a : Leaf) → s.knows r ≡ true → IsClosed s old → s.tree r ≡ Ends a → AddsRef old new r → Visits s old new r
-  visits-leaf old new r a k c e h = visits-add old new r k c h (λ x i. inl (leaf-node x a (subst (λ v. IsNode x v) e i) ∙ sym e))
+  visits-leaf old new r a k c e h = visits-add old new r k c h (rw e tt) (λ x i. inl (leaf-node x a (subst (λ v. IsNode x v) e i) ∙ sym e))
 
   pub visits-test : (old one two new : List Entry) (r y n : Entry) (l : ℕ) → s.knows r ≡ true → s.tree r ≡ Tests l (s.tree y) (s.tree n)
       → Visits s old one y → Visits s one two n → AddsRef two new r → Visits s old new r
   visits-test old one two new r y n l k e v w h =
-      let u : Visits s two new r = visits-add two new r k w.closed h (λ x i. elim (node-cases x (s.tree y) (s.tree n) l (subst (λ t. IsNode x t) e i)) [
+      let there : HasTree s two (s.tree y) = record { ref = y; is_in = w.kept y v.found; tree = refl } in
+      let last : HasTree s two (s.tree n) = record { ref = n; is_in = w.found; tree = refl } in
+      let u : Visits s two new r = visits-add two new r k w.closed h (rw e (there, last)) (λ x i. elim (node-cases x (s.tree y) (s.tree n) l (subst (λ t. IsNode x t) e i)) [
         | inl z ↦ inl (z ∙ sym e)
         | inr z ↦ inr (elim z [
           | inl g ↦ more-trees one two w.kept x (v.closed.nodes y x v.found g)
@@ -168,6 +190,7 @@ module _ (s : Shown) where
   closed-none = record {
     distinct = IsDistinct-from_apart entry_eq [] (λ i j d a b. absurd (omega arith));
     known = λ q m. absurd (omega (arith, m.1));
+    order = λ i q j e. absurd (omega arith);
     nodes = λ q x m i. absurd (omega (arith, m.1));
   }
 
@@ -175,6 +198,7 @@ module _ (s : Shown) where
   reached-visits r refs v = record {
     distinct = v.closed.distinct;
     known = v.closed.known;
+    order = v.closed.order;
     nodes = λ q m. elim (v.only q m) [ inl a ↦ absurd (omega (arith, a.1)) | inr a ↦ a ];
     all = λ x i. v.closed.nodes r x v.found i;
   }

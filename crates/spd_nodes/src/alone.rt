@@ -1,4 +1,4 @@
-ghost use Rattle.std.specs.Prelude.{◌≡◌, ℕ, ◌+◌, ◌<◌, ◌≤◌, ◌≢◌, ◌↔◌, [], ◌∷◌, IfOk, IfErr, true, length};
+ghost use Rattle.std.specs.Prelude.{◌≡◌, ℕ, ◌+◌, ◌<◌, ◌≤◌, ◌≢◌, ◌↔◌, [], ◌∷◌, IfOk, IfErr, OnErr, true, length};
 ghost use Rattle.spd_nodes.specs.Levels.{levels_of, slots};
 ghost use Rattle.spd_nodes.specs.Store.{shown, leaf_key, key_view, KeyFits, LeavesNoRoom, FindsOrAdds};
 ghost use Rattle.spd_nodes.specs.Trees.{Ends, join, CanTest};
@@ -101,11 +101,12 @@ impl Forest for Alone {
         &self.layout
     }
 
-    /// Full comes exactly where `limit` entries stand and the leaf isn't among them.
+    /// Full comes exactly where `limit` entries stand and the leaf isn't among them. Where it fails, nothing changes.
     fn leaf<L: Ledger>(&mut self, leaf: Leaf, steps: &mut Steps<L>) -> Result<Ref, StoreFault>
         ensures sound { IsSound (shown self.new) }
         ensures grows { Grows (shown self.old) (shown self.new) }
         ensures keeps { self.new.limit ≡ self.old.limit }
+        ensures err { OnErr result (self.new ≡ self.old) }
         ensures ok { IfOk result (λ r. KnowsAs (shown self.new) r (Ends leaf)) }
         ensures makes { MakesOnly (shown self.old) (shown self.new) (Ends leaf ∷ []) }
         ensures fault { IfErr result (λ e. Faults e (shown self.new) (Ends leaf ∷ [])) }
@@ -116,7 +117,8 @@ impl Forest for Alone {
         self.find_or_add(key_of(leaf))
     }
 
-    /// Full comes exactly where the children differ, `limit` entries stand and the test isn't among them.
+    /// Full comes exactly where the children differ, `limit` entries stand and the test isn't among them. Where it fails,
+    /// nothing changes.
     fn test<L: Ledger>(
         &mut self,
         level: Level,
@@ -132,6 +134,7 @@ impl Forest for Alone {
         ensures sound { IsSound (shown self.new) }
         ensures grows { Grows (shown self.old) (shown self.new) }
         ensures keeps { self.new.limit ≡ self.old.limit }
+        ensures err { OnErr result (self.new ≡ self.old) }
         ensures ok { IfOk result (λ r. KnowsAs (shown self.new) r (join level.0 ((shown self.old).tree yes) ((shown self.old).tree no))) }
         ensures makes { MakesOnly (shown self.old) (shown self.new) (join level.0 ((shown self.old).tree yes) ((shown self.old).tree no) ∷ []) }
         ensures fault { IfErr result (λ e. Faults e (shown self.new) (join level.0 ((shown self.old).tree yes) ((shown self.old).tree no) ∷ [])) }

@@ -1,4 +1,4 @@
-ghost use Rattle.std.specs.Prelude.{◌≡◌, ℕ, ◌+◌, ◌-◌, ◌*◌, ◌<◌, ◌≤◌, length, slice_index, take, IfOk, List};
+ghost use Rattle.std.specs.Prelude.{◌≡◌, ℕ, ◌+◌, ◌-◌, ◌*◌, ◌<◌, ◌≤◌, length, slice_index, take, IfOk, List, Bool};
 ghost use Rattle.spd_nodes.specs.Levels.{levels_of, slots, level_at, IsTestOf};
 ghost use Rattle.spd_nodes.specs.Limits.{IsLayout};
 
@@ -47,11 +47,12 @@ impl Layout {
         self.sizes.as_slice()
     }
 
-    /// The level of the test of a variable's value, which isn't its last one.
+    /// The level of the test of a variable's value, which isn't its last one. No other test has it.
     pub fn level(&self, var: u32, primed: bool, value: u8) -> Level
         requires var { var < length self.now }
         requires value { value + 1 < slice_index self.now var }
         ensures level { result.0 ≡ level_at self.now var primed value }
+        ensures only { (v : ℕ) (p : Bool) (x : ℕ) → IsTestOf self.now result.0 v p x → (v ≡ var) × (p ≡ primed) × (x ≡ value) }
         ensures within { result.0 < levels_of (slots self.now) }
     {
         Level(level_in(self.sizes(), var as usize, primed, value))

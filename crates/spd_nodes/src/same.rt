@@ -15,6 +15,7 @@ pub fn is_same_function<F: Forest>(forest: &F, f: Ref, g: Ref) -> bool
     ensures equal { IsTrue result ↔ (f ≡ g) }
     ensures same { IsTrue result ↔ Agree (F.shows forest.now).sizes (meaning (F.shows forest.now) f) (meaning (F.shows forest.now) g) }
 {
+    // The forest is sound, as its layout says: so two whole trees of one function are one tree, which one Ref names.
     let _ = forest.layout();
     f == g
 }
@@ -29,6 +30,7 @@ pub fn is_same_rest<F: Forest>(forest: &F, level: Level, f: Ref, g: Ref) -> bool
     ensures equal { IsTrue result ↔ (f ≡ g) }
     ensures same { IsTrue result ↔ AgreePast (F.shows forest.now).sizes level.0 (meaning (F.shows forest.now) f) (meaning (F.shows forest.now) g) }
 {
+    // The forest is sound here too, and two of its trees with one root level and one rest are one tree.
     let _ = forest.layout();
     f == g
 }
