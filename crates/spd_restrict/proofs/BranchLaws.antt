@@ -15,7 +15,8 @@ use Rattle.spd_nodes.specs.Shown.{Shown, IsSound, IsWhole, StandsFor, MakesNodes
 use Rattle.spd_nodes.proofs.ShownLaws.{Within, makes-within, makes-then, faults-within, stands-for}
 use Rattle.spd_nodes.proofs.StateLaws.{positive-slots, test_tree-agree, InRange-point}
 use Rattle.spd_restrict.specs.Restricted.{IsSlot}
-use Rattle.spd_restrict.specs.Chosen.{value_of, function_at, chosen, chosen_from, chosen_below, branch_functions, replaced_at, replaced, MayReplace}
+use Rattle.spd_restrict.specs.Chosen.{value_of, function_at, chosen, chosen_from, chosen_below, branch_functions}
+use Rattle.spd_restrict.specs.Replaced.{replaced_at, replaced, MayReplace}
 use Rattle.spd_apply.proofs.HalfLaws.{aligned-from}
 use Rattle.spd_restrict.proofs.ReplacedLaws.{value_at-replaced, replaced-whole, whole-from}
 

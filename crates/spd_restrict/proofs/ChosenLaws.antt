@@ -17,7 +17,7 @@ use Rattle.spd_apply.proofs.MeetingLaws.{Meets, GoesDown, descends}
 use Rattle.spd_apply.proofs.HalfLaws.{Splits, splits-fits, after-next, after_le, Joins}
 use Rattle.spd_apply.proofs.PlanLaws.{Known, next_yes-is, next_no-is, MayMeetHalves, plans-at}
 use Rattle.spd_apply.proofs.Steps.{within-no}
-use Rattle.spd_restrict.specs.Chosen.{replaced, replaced_after, MayReplace, CanReplace, IsWholeFrom}
+use Rattle.spd_restrict.specs.Replaced.{replaced, replaced_after, MayReplace, CanReplace, IsWholeFrom}
 use Rattle.spd_restrict.proofs.SlotLaws.{after-before}
 use Rattle.spd_restrict.proofs.ReplacedLaws.{replaced-goes, whole-from, whole-at, fits-next, joins-replaced_after}
 

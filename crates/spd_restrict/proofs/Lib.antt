@@ -4,4 +4,5 @@ pub mod CofactorLaws
 pub mod FixedLaws
 pub mod PrimedLaws
 pub mod ReplacedLaws
+mod Rows
 pub mod SlotLaws

@@ -14,7 +14,7 @@ use Rattle.spd_apply.proofs.HalfLaws.{same_level, Splits, splits-fits, after-nex
 use Rattle.spd_apply.proofs.AppliedLaws.{value_at-against}
 use Rattle.spd_apply.proofs.MeetingLaws.{GoesDown, made-whole}
 use Rattle.spd_restrict.specs.Restricted.{IsSlot}
-use Rattle.spd_restrict.specs.Chosen.{replaced_after, down_to, replaced, IsWholeFrom}
+use Rattle.spd_restrict.specs.Replaced.{replaced_after, down_to, replaced, IsWholeFrom}
 use Rattle.spd_restrict.proofs.SlotLaws.{after-in, after-before, first-is, passes-in}
 
 -- the leaf of a half is the tree's leaf, where the test holds or doesn't

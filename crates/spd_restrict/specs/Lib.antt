@@ -1,3 +1,4 @@
 pub mod Chosen
 pub mod Primed
+pub mod Replaced
 pub mod Restricted

@@ -1,7 +1,8 @@
 ghost use Rattle.std.specs.Prelude.{◌≡◌, ℕ, ◌+◌, ◌-◌, ◌<◌, ◌≤◌, [], ◌∷◌, IfOk, IfErr, All, true, length, map, slice_index};
 ghost use Rattle.spd_nodes.specs.Levels.{levels_of, slots};
 ghost use Rattle.spd_nodes.specs.Shown.{Shown, IsSound, Grows, IsWhole, KnowsAs, MakesOnly, Faults, StandsFor, MakesNodesOf, FaultsAt, meaning};
-ghost use Rattle.spd_restrict.specs.Chosen.{branch_functions, chosen, chosen_from, chosen_below, replaced, replaced_after, replaced_at, MayReplace, MeetAt, CanReplace};
+ghost use Rattle.spd_restrict.specs.Chosen.{branch_functions, chosen, chosen_from, chosen_below};
+ghost use Rattle.spd_restrict.specs.Replaced.{replaced, replaced_after, replaced_at, MayReplace, MeetAt, CanReplace};
 
 use spd_apply::{Below, OpFault, Plan, Rule, halves, lower_level, make_alone};
 use spd_nodes::{Forest, Level, Ref, Steps};
