@@ -152,7 +152,7 @@ fn choose_from<F: Forest, L: Ledger>(
 ///
 /// It makes only nodes of its answer and of the functions on the way: for each value, the kid of the variable's value where
 /// that is at least this one, and the last kid elsewhere. Full comes only where a call of the forest answered Full in this
-/// call. Calls nest at most three deep a level and 64 in all besides, and there are at most 512 levels.
+/// call. Calls nest at most three deep a level and 128 deep besides, and there are at most 512 levels.
 pub fn choose<F: Forest, L: Ledger>(
     alloc: Global,
     forest: &mut F,
