@@ -18,7 +18,7 @@ use Rattle.spd_nodes.proofs.TreeLaws.{both, both_true}
 abbrev pub key_eq : Key → Key → Bool
 key_eq = eq-value.it
 
-same_entry : (a b : Entry) → (a.0 == b.0) ≡ true → a ≡ b
+pub same_entry : (a b : Entry) → (a.0 == b.0) ≡ true → a ≡ b
 same_entry a b e = let h : a.0 ≡ b.0 = (Decides-eqb a.0 b.0).0 e in λ i. record { 0 = h i }
 
 pub key_eq-true : (a b : Key) → key_eq a b ≡ true → a ≡ b

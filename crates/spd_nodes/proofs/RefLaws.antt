@@ -17,6 +17,7 @@ use Rattle.spd_nodes.specs.declared.leaf.Leaf.{Leaf}
 use Rattle.spd_nodes.specs.Trees.{Tree, Ends, Tests, tree_eq, IsNode, Itself, InYes, InNo, nodes_of}
 use Rattle.spd_nodes.specs.Shown.{Shown, IsSound}
 use Rattle.spd_nodes.specs.Refs.{entry_eq, AddsRef, HasTree, HasChildren, ChildrenFirst, IsClosed, Visits, IsReached, node_count}
+use Rattle.spd_nodes.proofs.KeyLaws.{same_entry}
 use Rattle.spd_nodes.proofs.TreeLaws.{tree_eq-refl, tree_eq-true, tree_eq-false}
 
 -- a test that is equality is an equivalence
@@ -29,17 +30,14 @@ equivalence {K} E r s = record { refl = r; symm = λ x y. flip x y (E x y) (E y 
     flip x y true false h k = sym (r y) ∙ ap (λ v. E y v) (sym (s x y h)) ∙ k
     flip x y false true h k = sym h ∙ ap (λ v. E x v) (s y x k) ∙ r x
 
-entry-same : (a b : Entry) → entry_eq a b ≡ true → a ≡ b
-entry-same a b e = let h : a.0 ≡ b.0 = (Decides-eqb a.0 b.0).0 e in λ i. record { 0 = h i }
-
 pub entry_laws : IsEquivalence entry_eq
-entry_laws = equivalence entry_eq (λ r. (Decides-eqb r.0 r.0).1 refl) entry-same
+entry_laws = equivalence entry_eq (λ r. (Decides-eqb r.0 r.0).1 refl) same_entry
 
 pub tree_laws : IsEquivalence tree_eq
 tree_laws = equivalence tree_eq tree_eq-refl tree_eq-true
 
 pub contains-any : (refs : List Entry) (r : Entry) (b : Bool) → b ≡ list_any (entry_eq r) refs → (IsTrue b → Contains refs r) × (Contains refs r → IsTrue b)
-contains-any refs r true e = (λ _. Contains-from_any entry-same r refs (sym e), λ _. refl)
+contains-any refs r true e = (λ _. Contains-from_any same_entry r refs (sym e), λ _. refl)
 contains-any refs r false e = (λ h. absurd (true≢false (sym h)), λ h. absurd (true≢false (sym (list_any-from_Contains entry_laws r refs h) ∙ sym e)))
 
 absent-any : (refs : List Entry) (r : Entry) → list_any (entry_eq r) refs ≡ false → ¬ Contains refs r
@@ -49,14 +47,14 @@ any-absent : (refs : List Entry) (r : Entry) → ¬ Contains refs r → list_any
 any-absent refs r h = go (list_any (entry_eq r) refs) refl
   where
     go : (b : Bool) → list_any (entry_eq r) refs ≡ b → b ≡ false
-    go true e = absurd (h (Contains-from_any entry-same r refs e))
+    go true e = absurd (h (Contains-from_any same_entry r refs e))
     go false e = refl
 
 pub adds-ref : (old new : List Entry) (r : Entry) → new ≡ (if list_any (entry_eq r) old then old else old ++ r ∷ []) → AddsRef old new r
 adds-ref old new r e = go (list_any (entry_eq r) old) refl
   where
     go : (b : Bool) → list_any (entry_eq r) old ≡ b → AddsRef old new r
-    go true h = inl (rw h at e, Contains-from_any entry-same r old h)
+    go true h = inl (rw h at e, Contains-from_any same_entry r old h)
     go false h = inr (rw h at e, absent-any old r h)
 
 -- the nodes of a test are itself and those of its children
@@ -185,23 +183,6 @@ module _ (s : Shown) where
           | inr a ↦ inr a
         ];
       }
-
-  pub closed-none : IsClosed s []
-  closed-none = record {
-    distinct = IsDistinct-from_apart entry_eq [] (λ i j d a b. absurd (omega arith));
-    known = λ q m. absurd (omega (arith, m.1));
-    order = λ i q j e. absurd (omega arith);
-    nodes = λ q x m i. absurd (omega (arith, m.1));
-  }
-
-  pub reached-visits : (r : Entry) (refs : List Entry) → Visits s [] refs r → IsReached s r refs
-  reached-visits r refs v = record {
-    distinct = v.closed.distinct;
-    known = v.closed.known;
-    order = v.closed.order;
-    nodes = λ q m. elim (v.only q m) [ inl a ↦ absurd (omega (arith, a.1)) | inr a ↦ a ];
-    all = λ x i. v.closed.nodes r x v.found i;
-  }
 
   module _ (o : IsSound s) (r : Entry) (refs : List Entry) (h : IsReached s r refs) where
     abbrev trees : List Tree

@@ -204,6 +204,7 @@ finds h s key fits full None a result e = rw e (record {
   grows = grows-none (shown h);
   limit = refl;
   err = refl;
+  absent = a;
   ok = tt;
   makes = makes-none (shown h) (tree_by (trees_of h.keys) key ∷ []);
   fault = lacks-key h s key fits a full;
@@ -214,6 +215,7 @@ finds h s key fits full (Some i) p result e = rw e.2 (record {
   grows = grows-none (shown h);
   limit = refl;
   err = tt;
+  absent = tt;
   ok = knows-found h s key e.0 (rw e.1 p.within) (rw e.1 p.is);
   makes = makes-none (shown h) (tree_by (trees_of h.keys) key ∷ []);
   fault = tt;
@@ -231,6 +233,7 @@ adds h s key fits room keys r (inl p) =
         grows = grows-none (shown h);
         limit = refl;
         err = tt;
+        absent = tt;
         ok = knows-found h s key r p.1.within p.1.is;
         makes = makes-none (shown h) (tree_by (trees_of h.keys) key ∷ []);
         fault = tt;
@@ -245,6 +248,7 @@ adds h s key fits room keys r (inr p) =
         grows = grows-add h s key fits p.1;
         limit = refl;
         err = tt;
+        absent = tt;
         ok = knows-add h s key fits p.1 r p.2;
         makes = makes-add h s key fits p.1;
         fault = tt;
@@ -253,12 +257,13 @@ adds h s key fits room keys r (inr p) =
     )
 
 -- there was no memory for a key
-pub adds-none : (h : Held) → IsStore h → (key : Key) → length h.keys < h.limit → FindsOrAdds h h key (Err F.Memory)
-adds-none h s key room = record {
+pub adds-none : (h : Held) → IsStore h → (key : Key) → length h.keys < h.limit → IsAbsent h.keys key → FindsOrAdds h h key (Err F.Memory)
+adds-none h s key room absent = record {
   sound = is_sound-shown h s;
   grows = grows-none (shown h);
   limit = refl;
   err = refl;
+  absent = absent;
   ok = tt;
   makes = makes-none (shown h) (tree_by (trees_of h.keys) key ∷ []);
   fault = tt;

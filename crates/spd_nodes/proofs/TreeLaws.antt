@@ -224,11 +224,6 @@ tree_of-agree [] b f g o h = ap Ends (h [] tt)
 tree_of-agree (d ∷ ds) b f g o h =
     chain-agree (d - 1) 0 b _ _ (λ k u v. tree_of-agree ds (b + (d - 1)) (λ p. f (k ∷ p)) (λ p. g (k ∷ p)) o.1 (λ p i. h (k ∷ p) (omega arith, i)))
 
--- two reduced whole trees with equal values in range are equal
-pub one_tree : (ds : List ℕ) (b : ℕ) (t u : Tree) → AllPositive ds → IsReduced ds b t → IsFrom ds b b t → IsReduced ds b u → IsFrom ds b b u
-    → ((p : List ℕ) → InRange ds p → value_at ds b t p ≡ value_at ds b u p) → t ≡ u
-one_tree ds b t u o r f s g h = sym (tree_of-value_at ds b t r f) ∙ tree_of-agree ds b _ _ o h ∙ tree_of-value_at ds b u s g
-
 -- two reduced trees of one first level with equal values in range from that level's value on are equal
 pub one_part : (ds : List ℕ) (b l : ℕ) (t u : Tree) → AllPositive ds → b ≤ l → IsReduced ds b t → IsReduced ds b u → IsAt l t → IsAt l u
     → ((p : List ℕ) → InRange ds p → IsPast ds (l - b) p → value_at ds b t p ≡ value_at ds b u p) → t ≡ u

@@ -88,13 +88,14 @@ pub record KeyFits (h : Held) (key : Key) : Type 0 where
   pub below : IsBelow (length h.keys) key
   pub reduced : IsReduced (slots h.sizes) 0 (tree_by (trees_of h.keys) key)
 
--- A call that looks for a key's tree and makes it where it isn't known: Full exactly where there is no room for it. Where it
--- fails, nothing changes.
+-- A call that looks for a key's tree and makes it where it isn't known: Full exactly where there is no room for it. It fails
+-- only where the key stands nowhere, and then nothing changes.
 pub record FindsOrAdds (old new : Held) (key : Key) (result : Result Entry StoreFault) : Type 0 where
   pub sound : IsSound (shown new)
   pub grows : Grows (shown old) (shown new)
   pub limit : new.limit ≡ old.limit
   pub err : OnErr result (new ≡ old)
+  pub absent : OnErr result (IsAbsent old.keys key)
   pub ok : IfOk result (λ r. KnowsAs (shown new) r (tree_by (trees_of old.keys) key))
   pub makes : MakesOnly (shown old) (shown new) (tree_by (trees_of old.keys) key ∷ [])
   pub fault : IfErr result (λ e. Faults e (shown new) (tree_by (trees_of old.keys) key ∷ []))

@@ -1,4 +1,5 @@
 ghost use Rattle.std.specs.Prelude.{◌≡◌, ℕ, ◌+◌, ◌<◌, ◌≤◌, ◌≢◌, ◌↔◌, [], ◌∷◌, IfOk, IfErr, OnErr, true, length};
+ghost use Rattle.spd_nodes.specs.Keys.{IsAbsent};
 ghost use Rattle.spd_nodes.specs.Levels.{levels_of, slots};
 ghost use Rattle.spd_nodes.specs.Store.{shown, leaf_key, key_view, KeyFits, LeavesNoRoom, FindsOrAdds};
 ghost use Rattle.spd_nodes.specs.Trees.{Ends, join, CanTest};
@@ -101,7 +102,8 @@ impl Forest for Alone {
         &self.layout
     }
 
-    /// Full comes exactly where `limit` entries stand and the leaf isn't among them. Where it fails, nothing changes.
+    /// It fails only where the leaf isn't among the entries, and then nothing changes. Full comes exactly where `limit` of
+    /// them stand besides.
     fn leaf<L: Ledger>(&mut self, leaf: Leaf, steps: &mut Steps<L>) -> Result<Ref, StoreFault>
         ensures sound { IsSound (shown self.new) }
         ensures grows { Grows (shown self.old) (shown self.new) }
@@ -111,14 +113,15 @@ impl Forest for Alone {
         ensures makes { MakesOnly (shown self.old) (shown self.new) (Ends leaf ∷ []) }
         ensures fault { IfErr result (λ e. Faults e (shown self.new) (Ends leaf ∷ [])) }
         ensures cost { steps.new ≡ steps.old + 1 }
+        ensures absent { OnErr result (IsAbsent self.old.keys (leaf_key leaf)) }
         ensures full { (result ≡ Err StoreFault.Full) ↔ LeavesNoRoom self.old (leaf_key leaf) }
     {
         steps.tick();
         self.find_or_add(key_of(leaf))
     }
 
-    /// Full comes exactly where the children differ, `limit` entries stand and the test isn't among them. Where it fails,
-    /// nothing changes.
+    /// It fails only where the children differ and the test isn't among the entries, and then nothing changes. Full comes
+    /// exactly where `limit` of them stand besides.
     fn test<L: Ledger>(
         &mut self,
         level: Level,
@@ -139,6 +142,7 @@ impl Forest for Alone {
         ensures makes { MakesOnly (shown self.old) (shown self.new) (join level.0 ((shown self.old).tree yes) ((shown self.old).tree no) ∷ []) }
         ensures fault { IfErr result (λ e. Faults e (shown self.new) (join level.0 ((shown self.old).tree yes) ((shown self.old).tree no) ∷ [])) }
         ensures cost { steps.new ≡ steps.old + test_steps yes no }
+        ensures absent { OnErr result ((yes ≢ no) × IsAbsent self.old.keys (Key.Test level.0 yes no)) }
         ensures full { (result ≡ Err StoreFault.Full) ↔ ((yes ≢ no) × LeavesNoRoom self.old (Key.Test level.0 yes no)) }
     {
         let _ = self.layout();

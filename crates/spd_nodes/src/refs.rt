@@ -59,10 +59,11 @@ impl Refs {
         self.set.contains(&r)
     }
 
-    /// Puts a Ref in the last place, if it isn't among them.
+    /// Puts a Ref in the last place, if it isn't among them. It fails only where it isn't, for want of memory.
     pub fn add(&mut self, r: Ref) -> Result<(), AllocError>
         ensures ok { OnOk result (AddsRef self.old self.new r) }
         ensures err { OnErr result (self.new ≡ self.old) }
+        ensures absent { OnErr result (¬ Contains self.old r) }
     {
         match self.set.insert(r) {
             Ok(_) => Ok(()),

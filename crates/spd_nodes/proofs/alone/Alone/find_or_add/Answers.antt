@@ -19,7 +19,7 @@ returns c =
     subst (λ (v : Held). FindsOrAdds v after c.args.key c.match-find_or_add.result) c.self.view_is
     (elim c.match-find_or_add.branch [
       | in-Ok w ↦ rw w.result-is (adds before c.self.invariant c.args.key fits (omega arith) c.find_or_add.new.self (record { 0 = w.in-Ok.place }) w.in-Ok.ensures.ok).1
-      | in-Err w ↦ rw (w.result-is, w.in-Err.ensures.err) (adds-none before c.self.invariant c.args.key (omega arith))
+      | in-Err w ↦ rw (w.result-is, w.in-Err.ensures.err) (adds-none before c.self.invariant c.args.key (omega arith) w.in-Err.ensures.absent)
     ])
 
 pub invariant_of-self : goal.invariant_of-self
