@@ -1,16 +1,16 @@
 -- Diagrams of Num from 0 to a bound, over plain tests of two-valued variables.
-use Rattle.std.proofs.Common.{◌≡◌, ℕ, zero, suc, ◌+◌, ◌-◌, ◌*◌, ◌^◌, ◌<◌, ◌≤◌, inl, Bool, true, false, cond, List, refl, sym, ◌∙◌, ap, subst, arith, true≢false, ℤ, pos, negsuc, ◌+ℤ◌, lit<, Result, Ok, Err, IfOk}
+use Rattle.std.proofs.Common.{◌≡◌, ℕ, ◌+◌, ◌-◌, ◌*◌, ◌^◌, ◌<◌, ◌≤◌, inl, Bool, true, false, cond, List, refl, sym, ◌∙◌, ap, arith, true≢false, pos, negsuc, ◌+ℤ◌, lit<, Result, Ok, Err, IfOk}
 use Rattle.std.specs.Prelude.{nat_lt, nat_le}
 use Rattle.std.proofs.lemmas.Bool.Decides.{nat_tests}
 use Rattle.spd_cons_core.specs.declared.key.Entry.{Entry}
 use Rattle.spd_nodes.specs.declared.leaf.Leaf.{Leaf}
 use Rattle.spd_nodes.specs.declared.leaf.Leaf.TheVariants.{Num, Pair, Act}
-use Rattle.spd_nodes.specs.Levels.{levels_of, passes, after, is_first, slots, level_at}
+use Rattle.spd_nodes.specs.Levels.{passes, after, slots, level_at}
 use Rattle.spd_nodes.specs.Trees.{Tree, Ends, Tests, tree_eq, value_at, IsFrom, CanTest, join}
 use Rattle.spd_nodes.specs.States.{point}
 use Rattle.spd_nodes.specs.Shown.{Shown, IsSound, Grows, KnowsAs, IsWhole, StandsFor, meaning}
 use Rattle.spd_apply.specs.Applied.{applied, mapped, against}
-use Rattle.spd_apply.specs.Operations.{num_of, num_fits, are_nums, in_i128}
+use Rattle.spd_apply.specs.Operations.{num_of, num_fits, are_nums}
 use Rattle.spd_apply.specs.Outcome.{FitEverywhere, at_each}
 use Rattle.spd_apply.proofs.HalfLaws.{IsFrom-lower}
 use Rattle.spd_apply.proofs.WholeLaws.{made-tree, apply-reduced, apply-whole, apply-value}

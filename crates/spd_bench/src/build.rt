@@ -118,10 +118,7 @@ pub fn sum<F: Forest, L: Ledger>(
 /// The parity of the numbers of all variables' values: 0 where their sum is even, 1 where it is odd. It is built from the
 /// last variable up, together with its opposite.
 #[tactic(auto, using(crate::proofs::CountLaws::count_laws))]
-pub fn parity<F: Forest, L: Ledger>(
-    forest: &mut F,
-    steps: &mut Steps<L>,
-) -> Result<Ref, StoreFault>
+pub fn parity<F: Forest, L: Ledger>(forest: &mut F, steps: &mut Steps<L>) -> Result<Ref, StoreFault>
     requires { (F.shows forest.old).sizes ≡ twos 20 }
     ensures grows { Grows (F.shows forest.old) (F.shows forest.new) }
     ensures ok { IfOk result (λ r. IsCount (F.shows forest.new) (2 ^ 16) 0 r) }

@@ -35,12 +35,11 @@ use crate::fault::BenchError;
 use crate::workload::{Measure, Request, Workload};
 use spd_nodes::{Alone, Counting, Layout, Steps};
 use std::alloc::Global;
-use std::env;
 use std::env::Env;
-use std::io;
 use std::marker::Brand;
 use std::process::ExitCode;
 use std::sync::ledger::{Blank, Ledger};
+use std::{env, io};
 
 /// How many values each of the variables has.
 const SIZES: [u8; 20] = [2; 20];
@@ -94,7 +93,6 @@ fn run_all(
     }
     Ok(calls)
 }
-
 
 /// What the words of the command line ask for.
 fn request<R: Env + AllocGlobal>(rt: &R) -> io::Result<Request> {

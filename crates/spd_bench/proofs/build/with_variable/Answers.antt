@@ -1,4 +1,4 @@
-use Rattle.std.proofs.Common.{◌≡◌, ◌≤◌, ◌+◌, ◌*◌, ◌^◌, ℕ, arith, subst, lit≤}
+use Rattle.std.proofs.Common.{◌≡◌, ◌+◌, ◌*◌, ◌^◌, ℕ, arith, subst, lit≤}
 use Rattle.spd_bench.specs.Built.{IsCount}
 use Rattle.spd_bench.proofs.CountLaws.{count-grows, count-more, count-sum, if-ok}
 use Rattle.spd_bench.proofs.build.with_variable.Goals as goal
