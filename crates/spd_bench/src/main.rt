@@ -1,51 +1,133 @@
-//! Makes a million leaves in a forest for one thread, finds them all again, and prints how many nodes and calls there were.
-//! Time is taken from outside.
+//! Builds stated diagrams in a forest for one thread, and prints how many nodes they have and how many find-or-make calls
+//! they took. Time is taken from outside.
+//!
+//! There are 20 variables of two values. Every count can be had by hand:
+//!
+//! - `leaves`: 1,000,000 leaves, each asked for twice.
+//! - `tests`: 1,000 leaves, and a test for each ordered pair of two different ones, 1,000 * 999; each is asked for twice.
+//! - `sum`: a leaf for each of the 2^16 sums of weights, and a test for each choice of values before a variable, 2^16 - 1.
+//!   The sum of i variables meets the next indicator at each of its 2^i - 1 tests and 2^i leaves, and both leaves of the
+//!   indicator at each leaf: 2^(i + 2) - 1 calls. For i from 0 to 15, with three calls for each indicator and one for the
+//!   leaf 0, these are 4 * (2^16 - 1) + 16 * 2 + 1.
+//! - `parity`: 2 leaves, 2 tests of each of the last 19 variables and one of the first, each in one call.
+//! - `pair`: 2^16 - 1 tests of the first 16 variables. Below each of the 2^16 sums, the parity of the last four has
+//!   2 * 4 - 1 tests and 2 leaves: 2^16 * 9 nodes. No pair of nodes meets twice, so each node is made in one call.
+//! - `add`: the same pairs meet, so there are as many calls. Below the sum a the leaves are a and a + 1: in all 2^16 + 1
+//!   leaves, with 2^16 - 1 + 2^16 * 7 tests.
+//! - `max`: a sum above 0 is never less than the parity, so below it all is one leaf: there are 2^16 leaves, 2^16 - 1 tests of
+//!   the first 16 variables, and 7 below the sum 0. Each of these tests takes a call, and each pair of leaves, 2 * 2^16.
+//! - `cofactor`: half of the sums stay: 2^15 - 1 tests, and below them 2^15 * 9 nodes. Calls are taken for the 2^10 - 1 tests
+//!   of the ten variables before the one that is held.
+//! - `prime`: as many nodes as the sum has, and a call for each of its 2^16 - 1 tests.
 #![tactic(auto)]
 
 ghost use Rattle.std.specs.Prelude.{◌≡◌, ℕ, ◌<◌};
 
-use spd_nodes::{Alone, Counting, Forest, Layout, Leaf, Steps, StoreFault};
+mod build;
+mod diagrams;
+mod entries;
+mod fault;
+mod workload;
+
+use crate::diagrams::measure_diagrams;
+use crate::entries::{Order, ask_leaves, ask_tests};
+use crate::fault::BenchError;
+use crate::workload::{Measure, Request, Workload};
+use spd_nodes::{Alone, Counting, Layout, Steps};
 use std::alloc::Global;
+use std::env::Env;
 use std::marker::Brand;
+use std::process::ExitCode;
 use std::sync::ledger::{Blank, Ledger};
+use std::{env, io};
 
-/// Asks for the leaves 0 to `count - 1`.
-fn ask<F: Forest, L: Ledger>(
-    forest: &mut Counting<F>,
-    count: u32,
-    steps: &mut Steps<L>,
-) -> Result<(), StoreFault> {
-    for number in 0..count {
-        forest.leaf(Leaf::Num(number as i128), steps)?;
-    }
-    Ok(())
-}
+/// How many values each of the variables has.
+const SIZES: [u8; 20] = [2; 20];
 
-/// Makes a million leaves and finds them again. It answers the number of find-or-make calls.
-fn make_and_find<L: Ledger>(alloc: Global, blank: Blank) -> Result<u64, StoreFault>
+/// How many entries a forest may have.
+const LIMIT: u32 = 8_388_608;
+
+/// What is printed where the words of the command line aren't those that it shows.
+const USAGE: &str = "usage: spd_bench [leaves | tests | diagrams]";
+
+/// Runs a workload in a forest of its own, and adds its measures. It answers how many find-or-make calls there were.
+fn run<L: Ledger>(
+    alloc: Global,
+    workload: Workload,
+    blank: Blank,
+    measures: &mut Vec<Measure>,
+) -> Result<u64, BenchError>
     requires name { blank.name ≡ L.name }
     requires parts { blank.parts ≡ L.parts }
     requires one { 0 < blank.parts }
 {
     let mut steps = Steps::<L>::new(blank);
-    let layout = match Layout::new(alloc, &[2, 2]) {
-        Ok(layout) => layout,
-        Err(_) => return Err(StoreFault::Memory),
-    };
-    let forest = match Alone::new(alloc, layout, 1_000_000) {
-        Ok(forest) => forest,
-        Err(_) => return Err(StoreFault::Memory),
-    };
+    let forest = Alone::new(alloc, Layout::new(alloc, &SIZES)?, LIMIT)?;
     let mut counting = Counting { forest, calls: 0 };
-    ask(&mut counting, 1_000_000, &mut steps)?;
-    ask(&mut counting, 1_000_000, &mut steps)?;
+    match workload {
+        Workload::Leaves => {
+            let _ = ask_leaves(&mut counting, &mut steps)?;
+            let greatest = ask_leaves(&mut counting, &mut steps)?;
+            measures.push(Measure::of_entries("leaves", greatest, counting.calls))?;
+        }
+        Workload::Tests => {
+            let _ = ask_tests(alloc, &mut counting, Order::Rows, &mut steps)?;
+            let greatest = ask_tests(alloc, &mut counting, Order::Columns, &mut steps)?;
+            measures.push(Measure::of_entries("tests", greatest, counting.calls))?;
+        }
+        Workload::Diagrams => measure_diagrams(alloc, &mut counting, measures, &mut steps)?,
+    }
     Ok(counting.calls)
 }
 
-fn main(rt: HostRuntime) -> anyhow::Result<()> {
-    match make_and_find::<Brand>(rt.alloc(), Blank::new(1)) {
-        Ok(calls) => println!(rt; "leaves 1000000 calls {calls}")?,
-        Err(fault) => println!(rt; "{fault:?}")?,
+/// Runs workloads one after the other, and adds their measures. It answers how many find-or-make calls there were, modulo
+/// 2^64.
+fn run_all(
+    alloc: Global,
+    workloads: &[Workload],
+    measures: &mut Vec<Measure>,
+) -> Result<u64, BenchError> {
+    let mut calls: u64 = 0;
+    for workload in workloads {
+        calls = calls.wrapping_add(run::<Brand>(alloc, *workload, Blank::new(1), measures)?);
     }
+    Ok(calls)
+}
+
+/// What the words of the command line ask for.
+fn request<R: Env + AllocGlobal>(rt: &R) -> io::Result<Request> {
+    let mut words = env::args(rt)?;
+    // The first word is the program's name.
+    let _ = words.next();
+    let name = match words.next() {
+        Some(name) => name,
+        None => return Ok(Request::All),
+    };
+    match (Workload::of_name(name.as_str()), words.next()) {
+        (Some(workload), None) => Ok(Request::One(workload)),
+        _ => Ok(Request::Wrong),
+    }
+}
+
+/// Runs workloads and prints what they measured.
+fn print_all<R: Print + AllocGlobal>(rt: &R, workloads: &[Workload]) -> anyhow::Result<()> {
+    let mut measures = Vec::new(rt.alloc());
+    let calls = run_all(rt.alloc(), workloads, &mut measures)?;
+    for measure in &measures {
+        println!(rt; "{measure}")?;
+    }
+    println!(rt; "calls {calls}")?;
     Ok(())
+}
+
+fn main(rt: HostRuntime) -> anyhow::Result<ExitCode> {
+    match request(&rt)? {
+        Request::All => print_all(&rt, &Workload::ALL)?,
+        Request::One(workload) => print_all(&rt, &[workload])?,
+        Request::Wrong => {
+            eprintln!(rt; "{USAGE}")?;
+            return Ok(ExitCode::from(2));
+        }
+    }
+    Ok(ExitCode::SUCCESS)
 }

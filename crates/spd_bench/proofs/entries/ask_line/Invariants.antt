@@ -1,0 +1,11 @@
+use Rattle.std.proofs.Common.{All}
+use Rattle.spd_nodes.specs.Shown.{Grows}
+use Rattle.spd_bench.specs.Built.{IsKnownLeaf}
+use Rattle.spd_bench.proofs.entries.ask_line.Given as goal
+
+abbrev pub invariant-loop-other : goal.invariant-loop-other
+invariant-loop-other g l = record {
+  grows : Grows (g.F.Forest.shows l.fn.forest) (g.F.Forest.shows l.forest);
+  leaves : All (IsKnownLeaf (g.F.Forest.shows l.forest)) l.leaves;
+  one : IsKnownLeaf (g.F.Forest.shows l.forest) l.one;
+}
