@@ -4,6 +4,7 @@ use crate::tables::{LEFT, RIGHT, check, diagram, table, table_of_two};
 use spd_apply::{Add, Keep, LeafOp, MakePair, Max, Min, Mul, PickFirst, Sub};
 use spd_nodes::{Forest, Leaf, Steps};
 use std::alloc::Global;
+use std::fmt::Debug;
 use std::sync::ledger::Ledger;
 use std::test::Fail;
 
@@ -28,23 +29,17 @@ fn num9(rows: [[i128; 3]; 3]) -> [[Leaf; 3]; 3] {
 }
 
 /// Fails where an operation's diagram for `LEFT` and `RIGHT` doesn't have these answers.
-fn answers_each<F: Forest, O: LeafOp, L: Ledger>(
+fn answers_each<F: Forest, O: LeafOp + Debug, L: Ledger>(
     alloc: Global,
     forest: &mut F,
     op: &O,
     case: &Answers,
-    what: &'static str,
     steps: &mut Steps<L>,
 ) -> Result<(), Fail> {
     let f = diagram(forest, &table(&LEFT, case.left), steps)?;
     let g = diagram(forest, &table(&RIGHT, case.right), steps)?;
     let r = applied(alloc, forest, op, f, g, steps)?;
-    check(
-        forest,
-        r,
-        &table_of_two(&LEFT, &RIGHT, case.answers),
-        what,
-    )
+    check(forest, r, &table_of_two(&LEFT, &RIGHT, case.answers), op)
 }
 
 /// The operations on numbers.
@@ -58,27 +53,27 @@ fn of_numbers<F: Forest, L: Ledger>(
         right: num3([-2, 0, 5]),
         answers: num9([[-5, -3, 2], [-2, 0, 5], [0, 2, 7]]),
     };
-    answers_each(alloc, forest, &Add, &case, "Add", steps)?;
+    answers_each(alloc, forest, &Add, &case, steps)?;
     let case = Answers {
         answers: num9([[-1, -3, -8], [2, 0, -5], [4, 2, -3]]),
         ..case
     };
-    answers_each(alloc, forest, &Sub, &case, "Sub", steps)?;
+    answers_each(alloc, forest, &Sub, &case, steps)?;
     let case = Answers {
         answers: num9([[6, 0, -15], [0, 0, 0], [-4, 0, 10]]),
         ..case
     };
-    answers_each(alloc, forest, &Mul, &case, "Mul", steps)?;
+    answers_each(alloc, forest, &Mul, &case, steps)?;
     let case = Answers {
         answers: num9([[-2, 0, 5], [0, 0, 5], [2, 2, 5]]),
         ..case
     };
-    answers_each(alloc, forest, &Max, &case, "Max", steps)?;
+    answers_each(alloc, forest, &Max, &case, steps)?;
     let case = Answers {
         answers: num9([[-3, -3, -3], [-2, 0, 0], [-2, 0, 2]]),
         ..case
     };
-    answers_each(alloc, forest, &Min, &case, "Min", steps)
+    answers_each(alloc, forest, &Min, &case, steps)
 }
 
 /// `Add` up to the ends of an `i128`.
@@ -96,7 +91,7 @@ fn to_the_ends<F: Forest, L: Ledger>(
         right: num3([0, -1, MORE]),
         answers: num9([[MAX, LESS, 0], [0, -1, MORE], [-1, -2, MIN]]),
     };
-    answers_each(alloc, forest, &Add, &case, "Add to the ends", steps)
+    answers_each(alloc, forest, &Add, &case, steps)
 }
 
 /// The operations that make pairs.
@@ -115,7 +110,7 @@ fn of_pairs<F: Forest, L: Ledger>(
             [p(2, -2), p(2, 0), p(2, 5)],
         ],
     };
-    answers_each(alloc, forest, &MakePair, &case, "MakePair", steps)?;
+    answers_each(alloc, forest, &MakePair, &case, steps)?;
     let case = Answers {
         left: [p(1, 10), p(2, 20), p(-3, 30)],
         right: [p(1, 11), p(2, 21), p(-3, 31)],
@@ -125,7 +120,7 @@ fn of_pairs<F: Forest, L: Ledger>(
             [p(1, 11), p(2, 21), p(-3, 30)],
         ],
     };
-    answers_each(alloc, forest, &PickFirst, &case, "PickFirst", steps)?;
+    answers_each(alloc, forest, &PickFirst, &case, steps)?;
     let case = Answers {
         left: [p(7, 1), p(8, 2), p(-7, 3)],
         right: num3([-5, 0, 9]),
@@ -135,7 +130,7 @@ fn of_pairs<F: Forest, L: Ledger>(
             [p(-7, 3), p(-7, 3), p(-7, 3)],
         ],
     };
-    answers_each(alloc, forest, &Keep(7), &case, "Keep", steps)
+    answers_each(alloc, forest, &Keep(7), &case, steps)
 }
 
 /// Fails where `apply` of an operation answers another table.

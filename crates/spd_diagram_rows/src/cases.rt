@@ -1,4 +1,6 @@
 //! Each operation over the table of cases, in a forest for one thread and in one that counts its calls.
+ghost use Rattle.std.specs.Prelude.{◌≡◌, ◌<◌};
+
 use crate::binary::operations;
 use crate::maps::maps;
 use crate::restrictions::restrictions;
@@ -9,15 +11,13 @@ use std::marker::Brand;
 use std::sync::ledger::{Blank, Ledger};
 use std::test::Fail;
 
-ghost use Rattle.std.specs.Prelude.{◌≡◌, ◌<◌};
-
 /// Fails where a diagram of a table has another leaf than the table.
 fn diagrams<F: Forest, L: Ledger>(forest: &mut F, steps: &mut Steps<L>) -> Result<(), Fail> {
     let leaves = [Leaf::Num(-3), Leaf::Pair(0, 1), Leaf::Act(2)];
     for shape in [&LEFT, &RIGHT, &PLAIN, &PRIMED] {
         let table = table(shape, leaves);
         let f = diagram(forest, &table, steps)?;
-        check(forest, f, &table, "a diagram")?;
+        check(forest, f, &table, &"a diagram")?;
     }
     Ok(())
 }
@@ -58,7 +58,8 @@ fn all_counted<L: Ledger>(alloc: Global, blank: Blank) -> Result<u64, Fail>
 
 #[test]
 fn answers_are_those_of_tables(rt: HostRuntime) -> Result<(), Fail> {
-    all_alone::<Brand>(rt.alloc(), Blank::new(1))
+    all_alone::<Brand>(rt.alloc(), Blank::new(1))?;
+    Ok(())
 }
 
 #[test]

@@ -83,10 +83,7 @@ fn plain_counts<F: Forest, L: Ledger>(
     Ok([count(alloc, forest, f)?, count(alloc, forest, next)?])
 }
 
-fn counts_alone<L: Ledger>(
-    alloc: Global,
-    blank: Blank,
-) -> Result<([usize; 5], [usize; 2]), Fail>
+fn counts_alone<L: Ledger>(alloc: Global, blank: Blank) -> Result<([usize; 5], [usize; 2]), Fail>
     requires name { blank.name ≡ L.name }
     requires parts { blank.parts ≡ L.parts }
     requires one { 0 < blank.parts }

@@ -14,7 +14,7 @@ use std::alloc::{AllocError, Global};
 use std::sync::ledger::Ledger;
 use std::test::Fail;
 
-/// A number of levels up to which each is a test.
+/// The number of levels: where the last variable's tests end.
 pub fn levels(layout: &Layout) -> u16
     ensures { result ≤ levels_of (slots layout.now) }
 {

@@ -12,18 +12,14 @@ fn is_cofactor<F: Forest, L: Ledger>(
     alloc: Global,
     forest: &mut F,
     shape: &Shape,
-    (var, primed, value): (u32, bool, u8),
+    at: (u32, bool, u8),
     steps: &mut Steps<L>,
 ) -> Result<(), Fail> {
+    let (var, primed, value) = at;
     let table = table(shape, num3([-3, 0, 2]));
     let f = diagram(forest, &table, steps)?;
     let r = fixed(alloc, forest, f, var, primed, value, steps)?;
-    check(
-        forest,
-        r,
-        &table_at(&table, var, primed, value),
-        "a cofactor",
-    )
+    check(forest, r, &table_at(&table, var, primed, value), &at)
 }
 
 /// Fails where `cofactor` or `prime` answers another table.
@@ -40,5 +36,5 @@ pub fn restrictions<F: Forest, L: Ledger>(
     }
     let f = diagram(forest, &table(&PLAIN, num3([-3, 0, 2])), steps)?;
     let r = primed(alloc, forest, f, steps)?;
-    check(forest, r, &table(&PRIMED, num3([-3, 0, 2])), "prime")
+    check(forest, r, &table(&PRIMED, num3([-3, 0, 2])), &"prime")
 }

@@ -8,6 +8,7 @@ ghost use Rattle.spd_nodes.specs.Shown.{Shown, Grows};
 use crate::guarded::test;
 use crate::reading::leaf_at;
 use spd_nodes::{Forest, Leaf, Level, Ref, Steps};
+use std::fmt::Debug;
 use std::sync::ledger::Ledger;
 use std::test::Fail;
 
@@ -202,13 +203,13 @@ pub fn diagram<F: Forest, L: Ledger>(
     test(forest, Level(0), first, second, steps)
 }
 
-/// Fails where a diagram has another leaf than a row of a table.
-fn check_row<F: Forest>(
+/// Fails where a diagram has another leaf than a row of a table, with what the diagram is.
+fn check_row<F: Forest, W: Debug>(
     forest: &mut F,
     r: Ref,
     s: usize,
     row: &[Leaf; 6],
-    what: &'static str,
+    what: &W,
 ) -> Result<(), Fail>
     requires s { s < 6 }
     requires known { (F.shows forest.old).knows r ≡ true }
@@ -217,20 +218,18 @@ fn check_row<F: Forest>(
     for t in 0..6 {
         let leaf = leaf_at(forest, r, &values(s), &values(t), 7);
         if leaf != Some(row[t]) {
-            return Err(Fail::new(format_args!(
-                "{what}: {leaf:?} at {s} and {t}"
-            )));
+            return Err(Fail::new(format_args!("{what:?}: {leaf:?} at {s} and {t}")));
         }
     }
     Ok(())
 }
 
-/// Fails where a diagram has another leaf than a table.
-pub fn check<F: Forest>(
+/// Fails where a diagram has another leaf than a table, with what the diagram is.
+pub fn check<F: Forest, W: Debug>(
     forest: &mut F,
     r: Ref,
     table: &Table,
-    what: &'static str,
+    what: &W,
 ) -> Result<(), Fail>
     requires { (F.shows forest.old).knows r ≡ true }
     ensures { F.shows forest.new ≡ F.shows forest.old }
