@@ -25,26 +25,36 @@ fn link<F: Forest, L: Ledger>(
     test(forest, Level(level), yes, rest, steps)
 }
 
-/// Whether a level tests a plain value.
-fn is_plain(layout: &Layout, level: u16) -> bool {
+/// Which levels a chain tests.
+#[derive(Clone, Copy)]
+enum Tested {
+    All,
+    Plain,
+}
+
+/// Whether a level is tested.
+fn is_tested(layout: &Layout, tested: Tested, level: u16) -> bool {
     if level >= levels(layout) {
         return false;
     }
     let (_, primed, _) = layout.what(Level(level));
-    !primed
+    match tested {
+        Tested::All => true,
+        Tested::Plain => !primed,
+    }
 }
 
-/// The chain of all 512 levels, or of the plain ones. Where no test holds, the leaf is 0, which the last test's isn't.
+/// The chain of all 512 levels or of the plain ones, from the last one up. Where no test holds, the leaf is 0, which the last test's isn't.
 fn chain<F: Forest, L: Ledger>(
     forest: &mut F,
-    is_whole: bool,
+    tested: Tested,
     steps: &mut Steps<L>,
 ) -> Result<Ref, Fail>
     ensures { IfOk result (λ r. (F.shows forest.new).knows r ≡ true) }
 {
     let mut rest = forest.leaf(Leaf::Num(0), steps)?;
     for level in (0..512).rev() {
-        if is_whole || is_plain(forest.layout(), level) {
+        if is_tested(forest.layout(), tested, level) {
             rest = link(forest, level, rest, steps)?;
         }
     }
@@ -58,7 +68,7 @@ fn whole_counts<F: Forest, L: Ledger>(
     forest: &mut F,
     steps: &mut Steps<L>,
 ) -> Result<[usize; 5], Fail> {
-    let f = chain(forest, true, steps)?;
+    let f = chain(forest, Tested::All, steps)?;
     let sum = applied(alloc, forest, &Add, f, f, steps)?;
     let thrice = mapped(alloc, forest, &TimesFloor { g: 3, gd: 1 }, f, steps)?;
     let middle = fixed(alloc, forest, f, 2, false, 30, steps)?;
@@ -78,7 +88,7 @@ fn plain_counts<F: Forest, L: Ledger>(
     forest: &mut F,
     steps: &mut Steps<L>,
 ) -> Result<[usize; 2], Fail> {
-    let f = chain(forest, false, steps)?;
+    let f = chain(forest, Tested::Plain, steps)?;
     let next = primed(alloc, forest, f, steps)?;
     Ok([count(alloc, forest, f)?, count(alloc, forest, next)?])
 }

@@ -24,7 +24,7 @@ struct Seen {
     leaves: [Option<Leaf>; 4],
 }
 
-/// The leaves of a diagram at the present states of two variables of two values.
+/// The leaves of a diagram at the present states of two variables of two values, whatever the next state is.
 fn four_leaves<F: Forest>(forest: &mut F, r: Ref) -> [Option<Leaf>; 4]
     requires { (F.shows forest.old).knows r ≡ true }
     ensures { F.shows forest.new ≡ F.shows forest.old }

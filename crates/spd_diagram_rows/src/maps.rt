@@ -58,21 +58,11 @@ fn rounding<F: Forest, L: Ledger>(
     let up = [(BELOW, [-2, -2, 0]), (ABOVE, [1, 2, 4])];
     maps_numbers(alloc, forest, &two_thirds, &up, steps)?;
     let less_half = TimesFloor { g: -1, gd: 2 };
-    maps_numbers(
-        alloc,
-        forest,
-        &less_half,
-        &[([1, 2, -3], [-1, -1, 1])],
-        steps,
-    )?;
+    let down = [([1, 2, -3], [-1, -1, 1])];
+    maps_numbers(alloc, forest, &less_half, &down, steps)?;
     let less_half = TimesCeil { g: -1, gd: 2 };
-    maps_numbers(
-        alloc,
-        forest,
-        &less_half,
-        &[([1, 2, -3], [0, -1, 2])],
-        steps,
-    )
+    let up = [([1, 2, -3], [0, -1, 2])];
+    maps_numbers(alloc, forest, &less_half, &up, steps)
 }
 
 /// The maps that change a leaf's kind.

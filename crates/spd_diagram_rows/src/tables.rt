@@ -21,7 +21,8 @@ pub type Shape = [[u8; 6]; 6];
 /// A leaf for each present state (row) and next state (column).
 pub type Table = [[Leaf; 6]; 6];
 
-/// It tests both variables, primed and plain. Where both first values are 0 it goes on to the second present value.
+/// It tests both variables, primed and plain. Where the first variable has value 0 in both states, it skips the second one's
+/// next value.
 pub const LEFT: Shape = [
     [0, 0, 0, 1, 2, 0],
     [1, 1, 1, 1, 2, 0],
@@ -118,6 +119,7 @@ pub fn table_at(table: &Table, var: u32, primed: bool, value: u8) -> Table {
             } else {
                 (held(s, var, value), t)
             };
+            // Always so, at a value that the variable has.
             if row < 6 && column < 6 {
                 at[s][t] = table[row][column];
             }
