@@ -1,7 +1,3 @@
-use Rattle.std.proofs.Common.{◌≡◌, nat_eq, IsTrue, subst, sym}
-use Rattle.spd_nodes.specs.Levels.{slots}
-use Rattle.spd_nodes.specs.Trees.{IsFrom}
-use Rattle.std.proofs.lemmas.Bool.Decides.{Decides-eqb}
 use Rattle.spd_diagram_rows.proofs.ReadingLaws.{from-test}
 use Rattle.spd_diagram_rows.proofs.reading.is_from.Goals as goal
 

@@ -1,4 +1,4 @@
-use Rattle.std.proofs.Common.{◌≡◌, ◌∙◌, ap, take, length, arith, All, ◌++◌, ◌∷◌, []}
+use Rattle.std.proofs.Common.{◌∙◌, take, arith, ◌++◌, ◌∷◌, []}
 use Rattle.std.proofs.lemmas.List.Elements.{All-more, All-weaker}
 use Rattle.spd_diagram_rows.specs.Leaves.{LeafIsIn}
 use Rattle.spd_diagram_rows.proofs.ReadingLaws.{leaves-reached, all-taken, leaf-more, leaf-later, leaf-none}
