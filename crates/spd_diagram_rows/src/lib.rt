@@ -1,0 +1,21 @@
+//! Tests of the operations on diagrams that cross crates: their answers, compared state by state with tables.
+#![tactic(auto)]
+
+#[cfg(test)]
+mod binary;
+#[cfg(test)]
+mod cases;
+#[cfg(test)]
+mod deep;
+#[cfg(test)]
+mod guarded;
+#[cfg(test)]
+mod indicators;
+#[cfg(test)]
+mod maps;
+#[cfg(test)]
+mod reading;
+#[cfg(test)]
+mod restrictions;
+#[cfg(test)]
+mod tables;
