@@ -13,25 +13,13 @@ use Rattle.spd_nodes.specs.Shown.{Shown, IsSound, meaning}
 use Rattle.spd_nodes.specs.Refs.{HasTree, IsReached}
 use Rattle.spd_nodes.proofs.LayoutLaws.{level-plain}
 use Rattle.spd_apply.proofs.HalfLaws.{level_of-reduced}
+use Rattle.spd_apply.specs.Leaves.{AreLeavesOf}
 use Rattle.spd_apply.specs.Outcome.{FitEverywhere, FitsEverywhere}
 use Rattle.spd_restrict.specs.Primed.{is_plain_level, TestsNoPrimed}
 use Rattle.spd_restrict.specs.Restricted.{IsSlot}
-use Rattle.spd_restrict.proofs.SlotLaws.{after-in}
+use Rattle.spd_restrict.proofs.SlotLaws.{after-in, first-is}
 use Rattle.spd_restrict.proofs.FixedLaws.{slot-of}
-use Rattle.spd_diagram_rows.specs.Leaves.{LeafIsIn, HasLeaves, IsPlainRoot}
-
-slot-tail : (d : ℕ) (ds : List ℕ) (slot first end : ℕ) → IsSlot (d ∷ ds) (suc slot) first end → IsSlot ds slot (first - (d - 1)) (end - (d - 1))
-slot-tail d ds slot first end s = record { slot_in = omega (arith, s.slot_in); first_is = omega (arith, s.first_is); end_is = omega (arith, s.end_is, s.first_is) }
-
--- a slot with a test begins with the test of its first value
-first-at : (ds : List ℕ) (slot first end : ℕ) → IsSlot ds slot first end → first < end → is_first ds first ≡ true
-first-at [] slot first end s h = refl
-first-at (d ∷ ds) zero first end s h =
-    let e : nat_lt first (d - 1) ≡ true = grind (arith, nat_tests, s.first_is, s.end_is) in
-    rw e ((Decides-eqb first 0).1 (omega (arith, s.first_is)))
-first-at (d ∷ ds) (suc slot) first end s h =
-    let e : nat_lt first (d - 1) ≡ false = grind (arith, nat_tests, s.first_is, s.end_is) in
-    rw e (first-at ds slot (first - (d - 1)) (end - (d - 1)) (slot-tail d ds slot first end s) (omega (arith, s.first_is)))
+use Rattle.spd_diagram_rows.specs.PlainRoots.{IsPlainRoot}
 
 slot-test : (sizes : List ℕ) (l var v : ℕ) (primed : Bool) → IsTestOf sizes l var primed v
     → IsSlot (slots sizes) (slot_of var primed) (level_at sizes var primed 0) (level_at sizes var primed 0 + (get_or sizes var 0 - 1))
@@ -41,7 +29,7 @@ slot-test sizes l var v primed t = slot-of sizes var _ _ primed t.var_in refl re
 pub first-test : (sizes : List ℕ) (l var v : ℕ) (primed : Bool) → IsTestOf sizes l var primed v → v ≡ 0 → is_first (slots sizes) l ≡ true
 first-test sizes l var v primed t z =
     let e : level_at sizes var primed 0 ≡ l = ap (level_at sizes var primed) (sym z) ∙ t.level_is in
-    let i : is_first (slots sizes) (level_at sizes var primed 0) ≡ true = first-at (slots sizes) (slot_of var primed) _ _ (slot-test sizes l var v primed t) (omega (arith, t.value_in)) in
+    let i : is_first (slots sizes) (level_at sizes var primed 0) ≡ true = first-is (slots sizes) (slot_of var primed) _ _ (slot-test sizes l var v primed t) (omega (arith, t.value_in)) in
     rw e at i
 
 -- the end of the tests of a level's variable and kind
@@ -68,46 +56,18 @@ plain-test sizes l var v t = plain-at sizes l var v t.var_in t.value_in (sym (le
 pub level-known : (s : Shown) → IsSound s → (r : Entry) (l : ℕ) (y n : Tree) → s.knows r ≡ true → s.tree r ≡ Tests l y n → l < levels_of (slots s.sizes)
 level-known s o r l y n k e = level_of-reduced (slots s.sizes) l y n (subst (λ t. IsReduced (slots s.sizes) 0 t) e (o.reduced r k))
 
--- a tree's value at a point is one of its leaves
-value-node : (ds : List ℕ) (b : ℕ) (t : Tree) (p : List ℕ) → IsNode (Ends (value_at ds b t p)) t
-value-node ds b (Ends a) p = Itself
-value-node ds b (Tests l y n) p = go (passes ds (l - b) p) (value-node ds b y p) (value-node ds b n p)
-  where
-    go : (c : Bool) → IsNode (Ends (value_at ds b y p)) y → IsNode (Ends (value_at ds b n p)) n → IsNode (Ends (cond c (value_at ds b y p) (value_at ds b n p))) (Tests l y n)
-    go true i j = InYes i
-    go false i j = InNo j
-
--- a list with each leaf of a diagram has its value at each state
-pub value-in : (s : Shown) (r : Entry) (leaves : List Leaf) → HasLeaves s r leaves → (x y : List ℕ) → Contains leaves (meaning s r x y)
-value-in s r leaves h x y = h.each (meaning s r x y) (value-node (slots s.sizes) 0 (s.tree r) (point x y))
-
-pub fit-leaves : (fits : Leaf → Leaf → Bool) (s : Shown) (f g : Entry) (left right : List Leaf) → HasLeaves s f left → HasLeaves s g right
+-- an operation or a map is defined everywhere that is defined on the leaves
+pub fit-leaves : (fits : Leaf → Leaf → Bool) (s : Shown) (f g : Entry) (left right : List Leaf) → AreLeavesOf s.sizes (meaning s f) left → AreLeavesOf s.sizes (meaning s g) right
     → All (λ a. All (λ b. fits a b ≡ true) right) left → FitEverywhere fits s f g
 fit-leaves fits s f g left right hf hg all = record {
   at = λ x y i j.
       All-contains (λ b. fits (meaning s f x y) b ≡ true) right (meaning s g x y)
-      (All-contains (λ a. All (λ b. fits a b ≡ true) right) left (meaning s f x y) all (value-in s f left hf x y))
-      (value-in s g right hg x y);
+      (All-contains (λ a. All (λ b. fits a b ≡ true) right) left (meaning s f x y) all (hf.all x y i j))
+      (hg.all x y i j);
 }
 
-pub fits-leaves : (fits : Leaf → Bool) (s : Shown) (f : Entry) (leaves : List Leaf) → HasLeaves s f leaves → All (λ a. fits a ≡ true) leaves → FitsEverywhere fits s f
-fits-leaves fits s f leaves h all = record { at = λ x y i j. All-contains (λ a. fits a ≡ true) leaves (meaning s f x y) all (value-in s f leaves h x y) }
-
--- the leaves of all nodes are the leaves of the diagram
-pub leaves-reached : (s : Shown) (r : Entry) (refs : List Entry) (leaves : List Leaf) → IsReached s r refs → All (LeafIsIn s leaves) refs → HasLeaves s r leaves
-leaves-reached s r refs leaves h all = record {
-  each = λ a i. let k : HasTree s refs (Ends a) = h.all (Ends a) i in (All-contains (LeafIsIn s leaves) refs k.ref all k.is_in).is_in a k.tree;
-}
-
--- one more leaf
-pub leaf-more : (s : Shown) (leaves : List Leaf) (q : Entry) (a : Leaf) → s.tree q ≡ Ends a → LeafIsIn s (leaves ++ a ∷ []) q
-leaf-more s leaves q a e = record { is_in = λ b k. let same : a ≡ b = cc in subst (λ c. Contains (leaves ++ a ∷ []) c) same (Contains-push leaves a) }
-
-pub leaf-later : (s : Shown) (leaves : List Leaf) (a : Leaf) (q : Entry) → LeafIsIn s leaves q → LeafIsIn s (leaves ++ a ∷ []) q
-leaf-later s leaves a q h = record { is_in = λ b k. Contains-append_left leaves (a ∷ []) b (h.is_in b k) }
-
-pub leaf-none : (s : Shown) (leaves : List Leaf) (q : Entry) (l : ℕ) (y n : Tree) → s.tree q ≡ Tests l y n → LeafIsIn s leaves q
-leaf-none s leaves q l y n e = record { is_in = λ b k. let no : Tests l y n ≡ Ends b = sym e ∙ k in cc }
+pub fits-leaves : (fits : Leaf → Bool) (s : Shown) (f : Entry) (leaves : List Leaf) → AreLeavesOf s.sizes (meaning s f) leaves → All (λ a. fits a ≡ true) leaves → FitsEverywhere fits s f
+fits-leaves fits s f leaves h all = record { at = λ x y i j. All-contains (λ a. fits a ≡ true) leaves (meaning s f x y) all (h.all x y i j) }
 
 -- a diagram whose nodes test plain values alone
 plain-nodes : (sizes : List ℕ) (t : Tree) → ((l : ℕ) (y n : Tree) → IsNode (Tests l y n) t → is_plain_level sizes l ≡ true) → TestsNoPrimed sizes t

@@ -2,14 +2,14 @@
 ghost use Rattle.std.specs.Prelude.{◌≡◌, ℕ, ◌<◌, ◌≤◌, IfOk, IsTrue, true, length, slice_index, All};
 ghost use Rattle.spd_nodes.specs.Levels.{levels_of, slots, after};
 ghost use Rattle.spd_nodes.specs.Trees.{CanTest};
-ghost use Rattle.spd_nodes.specs.Shown.{Shown, Grows};
+ghost use Rattle.spd_nodes.specs.Shown.{Shown, Grows, IsWhole};
 ghost use Rattle.spd_apply.specs.Outcome.{FitEverywhere, FitsEverywhere};
 
-use crate::reading::{is_at, is_from, is_plain, leaves_in};
-use spd_apply::{LeafMap, LeafOp, apply, map_leaves};
+use crate::reading::{is_at, is_from, is_plain};
+use spd_apply::{LeafMap, LeafOp, apply, leaves_of, map_leaves};
 use spd_memo::Memo;
 use spd_nodes::{Forest, Layout, Leaf, Level, Ref, Steps};
-use spd_restrict::{cofactor, prime};
+use spd_restrict::{choose, cofactor, prime};
 use std::alloc::{AllocError, Global};
 use std::sync::ledger::Ledger;
 use std::test::Fail;
@@ -123,11 +123,13 @@ fn fit<F: Forest, O: LeafOp>(
 ) -> Result<bool, AllocError>
     requires left { (F.shows forest.old).knows f ≡ true }
     requires right { (F.shows forest.old).knows g ≡ true }
+    requires left_whole { IsWhole (F.shows forest.old) f }
+    requires right_whole { IsWhole (F.shows forest.old) g }
     ensures same { F.shows forest.new ≡ F.shows forest.old }
     ensures fit { IfOk result (λ b. IsTrue b → FitEverywhere (O.fits op.now) (F.shows forest.old) f g) }
 {
-    let left = leaves_in(alloc, forest, f)?;
-    let right = leaves_in(alloc, forest, g)?;
+    let left = leaves_of(alloc, forest, f)?;
+    let right = leaves_of(alloc, forest, g)?;
     Ok(fits_all(op, &left, &right))
 }
 
@@ -138,11 +140,12 @@ fn fits<F: Forest, M: LeafMap>(
     map: &M,
     f: Ref,
 ) -> Result<bool, AllocError>
-    requires { (F.shows forest.old).knows f ≡ true }
+    requires known { (F.shows forest.old).knows f ≡ true }
+    requires whole { IsWhole (F.shows forest.old) f }
     ensures same { F.shows forest.new ≡ F.shows forest.old }
     ensures fits { IfOk result (λ b. IsTrue b → FitsEverywhere (M.fits map.now) (F.shows forest.old) f) }
 {
-    let leaves = leaves_in(alloc, forest, f)?;
+    let leaves = leaves_of(alloc, forest, f)?;
     Ok(is_mapped(map, &leaves))
 }
 
@@ -159,6 +162,7 @@ pub fn applied<F: Forest, O: LeafOp, L: Ledger>(
     requires right { (F.shows forest.old).knows g ≡ true }
     ensures grows { Grows (F.shows forest.old) (F.shows forest.new) }
     ensures ok { IfOk result (λ r. (F.shows forest.new).knows r ≡ true) }
+    ensures whole { IfOk result (λ r. IsWhole (F.shows forest.new) r) }
 {
     if !is_from(forest, f, 0) {
         return Err(Fail::new("the left diagram isn't whole"));
@@ -245,4 +249,50 @@ pub fn primed<F: Forest, L: Ledger>(
         return Err(Fail::new("the diagram tests a primed name"));
     }
     Ok(prime(alloc, forest, f, steps)?)
+}
+
+/// Whether each of some known diagrams is whole.
+fn are_whole<F: Forest>(forest: &mut F, kids: &[Ref]) -> bool
+    requires { All (λ k. (F.shows forest.old).knows k ≡ true) kids.now }
+    ensures same { F.shows forest.new ≡ F.shows forest.old }
+    ensures whole { IsTrue result → All (λ k. IsWhole (F.shows forest.old) k) kids.now }
+{
+    for kid in kids {
+        if !is_from(forest, *kid, 0) {
+            return false;
+        }
+    }
+    true
+}
+
+/// Whether a variable has so many values.
+fn has_size(layout: &Layout, var: u32, size: usize) -> bool
+    ensures var { IsTrue result → var < length layout.now }
+    ensures size { IsTrue result → size ≡ slice_index layout.now var }
+{
+    let sizes = layout.sizes();
+    let var = var as usize;
+    var < sizes.len() && size == sizes[var] as usize
+}
+
+/// The branch on a variable, primed or plain, with known diagrams as kids.
+pub fn chosen<F: Forest, L: Ledger>(
+    alloc: Global,
+    forest: &mut F,
+    var: u32,
+    primed: bool,
+    kids: &[Ref],
+    steps: &mut Steps<L>,
+) -> Result<Ref, Fail>
+    requires { All (λ k. (F.shows forest.old).knows k ≡ true) kids.now }
+    ensures grows { Grows (F.shows forest.old) (F.shows forest.new) }
+    ensures ok { IfOk result (λ r. (F.shows forest.new).knows r ≡ true) }
+{
+    if !are_whole(forest, kids) {
+        return Err(Fail::new("a kid isn't whole"));
+    }
+    if !has_size(forest.layout(), var, kids.len()) {
+        return Err(Fail::new("no kid for each value"));
+    }
+    Ok(choose(alloc, forest, var, primed, kids, steps)?)
 }

@@ -2,9 +2,9 @@
 ghost use Rattle.std.specs.Prelude.{◌≡◌, ◌<◌, true};
 ghost use Rattle.spd_nodes.specs.Shown.{Shown};
 
-use crate::guarded::{applied, fixed, primed, test};
+use crate::guarded::{applied, chosen, fixed, primed, test};
 use crate::reading::leaf_at;
-use spd_apply::Add;
+use spd_apply::{Add, leaves_of};
 use spd_nodes::{Alone, Counting, Forest, Layout, Leaf, Level, Ref, Steps, StoreFault, count};
 use std::alloc::Global;
 use std::marker::Brand;
@@ -22,6 +22,10 @@ struct Seen {
     calls: u64,
     /// The sum at the present states (0, 0), (0, 1), (1, 0) and (1, 1).
     leaves: [Option<Leaf>; 4],
+    /// Whether the sum's distinct leaves are 0, 1 and 2.
+    has_three_leaves: bool,
+    /// How many nodes the second indicator has where the first variable has its first value, and 0 elsewhere.
+    choice: usize,
 }
 
 /// The leaves of a diagram at the present states of two variables of two values, whatever the next state is.
@@ -49,7 +53,9 @@ fn indicators<F: Forest, L: Ledger>(
     let before = forest.calls;
     let sum = applied(alloc, forest, &Add, f, g, steps)?;
     let calls = forest.calls.wrapping_sub(before);
+    let distinct = leaves_of(alloc, forest, sum)?;
     let at_first = fixed(alloc, forest, sum, 0, false, 0, steps)?;
+    let choice = chosen(alloc, forest, 0, false, &[g, zero], steps)?;
     let next = primed(alloc, forest, f, steps)?;
     Ok(Seen {
         indicators: (
@@ -60,6 +66,9 @@ fn indicators<F: Forest, L: Ledger>(
         sums: (count(alloc, forest, sum)?, count(alloc, forest, at_first)?),
         calls,
         leaves: four_leaves(forest, sum),
+        has_three_leaves: distinct.as_slice()
+            == [0, 1, 2].map(|number| Leaf::Num(number)).as_slice(),
+        choice: count(alloc, forest, choice)?,
     })
 }
 
@@ -95,6 +104,8 @@ fn a_sum_of_indicators(rt: HostRuntime) -> Result<(), Fail> {
     assert!(rt; seen.calls <= 9);
     let leaves = [2, 1, 1, 0].map(|number| Some(Leaf::Num(number)));
     assert_eq!(rt; seen.leaves, leaves);
+    assert!(rt; seen.has_three_leaves);
+    assert_eq!(rt; seen.choice, 4);
     assert!(rt; is_third_full::<Brand>(rt.alloc(), Blank::new(1))?);
     Ok(())
 }

@@ -4,7 +4,7 @@ ghost use Rattle.spd_nodes.specs.Levels.{slots};
 ghost use Rattle.spd_nodes.specs.Trees.{IsFrom, IsAt};
 ghost use Rattle.spd_nodes.specs.Shown.{Shown};
 ghost use Rattle.spd_restrict.specs.Primed.{TestsNoPrimed};
-ghost use Rattle.spd_diagram_rows.specs.Leaves.{HasLeaves, IsPlainRoot};
+ghost use Rattle.spd_diagram_rows.specs.PlainRoots.{IsPlainRoot};
 
 use spd_nodes::{Forest, Layout, Leaf, Level, Ref, View, reached};
 use std::alloc::{AllocError, Global};
@@ -36,23 +36,6 @@ pub fn leaf_at<F: Forest>(
         }
     }
     None
-}
-
-/// The leaves of a diagram.
-pub fn leaves_in<F: Forest>(alloc: Global, forest: &mut F, r: Ref) -> Result<Vec<Leaf>, AllocError>
-    requires { (F.shows forest.old).knows r ≡ true }
-    ensures same { F.shows forest.new ≡ F.shows forest.old }
-    ensures ok { IfOk result (λ v. HasLeaves (F.shows forest.old) r v.items) }
-{
-    let refs = reached(alloc, forest, r)?;
-    let mut leaves = Vec::new(alloc);
-    for q in refs.as_slice() {
-        match forest.view(*q) {
-            View::Leaf(a) => leaves.push(a)?,
-            View::Test { .. } => {}
-        }
-    }
-    Ok(leaves)
 }
 
 /// Whether a diagram tests plain values alone.

@@ -128,6 +128,30 @@ pub fn table_at(table: &Table, var: u32, primed: bool, value: u8) -> Table {
     at
 }
 
+/// A variable's value at a state.
+fn value_at(state: usize, var: u32) -> usize
+    requires { state < 6 }
+    ensures { result < 3 }
+{
+    match var {
+        0 => state / 3,
+        1 => state % 3,
+        _ => 0,
+    }
+}
+
+/// At each present and next state the table of a variable's value, primed or plain.
+pub fn table_by_value(tables: &[Table; 3], var: u32, primed: bool) -> Table {
+    let mut by_value = tables[0];
+    for s in 0..6 {
+        for t in 0..6 {
+            let value = value_at(if primed { t } else { s }, var);
+            by_value[s][t] = tables[value][s][t];
+        }
+    }
+    by_value
+}
+
 /// The values of a state.
 fn values(state: usize) -> [u8; 3]
     requires { state < 6 }

@@ -1,6 +1,6 @@
 use Rattle.std.proofs.Common.{◌∙◌, arith}
 use Rattle.std.proofs.lemmas.List.Elements.{All-more}
-use Rattle.spd_diagram_rows.specs.Leaves.{IsPlainRoot}
+use Rattle.spd_diagram_rows.specs.PlainRoots.{IsPlainRoot}
 use Rattle.spd_diagram_rows.proofs.ReadingLaws.{plain-reached, all-taken}
 use Rattle.spd_diagram_rows.proofs.reading.is_plain.Goals as goal
 

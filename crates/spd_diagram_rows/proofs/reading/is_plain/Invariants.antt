@@ -1,6 +1,6 @@
 use Rattle.std.proofs.Common.{◌≡◌, take, All}
 use Rattle.spd_nodes.specs.Refs.{IsReached}
-use Rattle.spd_diagram_rows.specs.Leaves.{IsPlainRoot}
+use Rattle.spd_diagram_rows.specs.PlainRoots.{IsPlainRoot}
 use Rattle.spd_diagram_rows.proofs.reading.is_plain.Given as goal
 
 abbrev pub invariant-loop-q : goal.invariant-loop-q
