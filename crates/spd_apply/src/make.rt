@@ -1,4 +1,5 @@
-ghost use Rattle.std.specs.Prelude.{◌≡◌, ℕ, ◌∷◌, [], IfOk, IfErr, IfSome, true};
+ghost use Rattle.std.specs.Prelude.{◌≡◌, ℕ, ◌∷◌, [], IfOk, IfErr, IfSome, OnOk, true};
+ghost use Rattle.spd_memo.specs.Kept.{answer_in, put_in};
 ghost use Rattle.spd_nodes.specs.declared.forest.StoreFault.{StoreFault};
 ghost use Rattle.spd_nodes.specs.Levels.{slots};
 ghost use Rattle.spd_nodes.specs.Shown.{Shown, IsSound, Grows, MakesOnly, KnowsAs, Faults};
@@ -11,10 +12,11 @@ use spd_nodes::{Forest, Ref, Steps};
 use std::alloc::Global;
 use std::sync::ledger::Ledger;
 
-/// The answer that a memo keeps.
+/// The answer that a memo keeps. None comes exactly where it keeps none.
 #[tactic(auto, using(crate::proofs::MemoLaws::answer_laws))]
 fn recall<F: Forest, R: Rule>(forest: &F, rule: &R, f: Ref, g: Ref, memo: &mut Memo) -> Option<Ref>
     requires { HoldsAnswers (R.making rule.now) (F.shows forest.now) memo.old }
+    ensures kept { result ≡ answer_in memo.old.pairs f g }
     ensures answer { IfSome result (λ r. IsAnswer (R.making rule.now) (F.shows forest.now) f g r) }
     ensures memo { HoldsAnswers (R.making rule.now) (F.shows forest.now) memo.new }
     ensures capacity { memo.new.capacity ≡ memo.old.capacity }
@@ -35,6 +37,7 @@ fn keep<F: Forest, R: Rule>(
     requires memo { HoldsAnswers (R.making rule.now) (F.shows forest.now) memo.old }
     requires answer { IsAnswer (R.making rule.now) (F.shows forest.now) f g r }
     ensures same { IfOk result (λ q. q ≡ r) }
+    ensures kept { OnOk result (memo.new ≡ put_in memo.old f g r) }
     ensures memory { IfErr result (λ e. e ≡ StoreFault.Memory) }
     ensures memo { HoldsAnswers (R.making rule.now) (F.shows forest.now) memo.new }
     ensures capacity { memo.new.capacity ≡ memo.old.capacity }
