@@ -1,5 +1,5 @@
 -- An operation on leaves, carried to trees, is carried out at each point, and gives reduced trees.
-use Rattle.std.proofs.Common.{◌≡◌, ℕ, ◌-◌, ◌<◌, ◌≤◌, ◌⊎◌, inl, inr, ◌==◌, Bool, true, false, cond, List, refl, sym, ◌∙◌, ap, subst, arith}
+use Rattle.std.proofs.Common.{◌≡◌, ℕ, ◌-◌, ◌⊎◌, inl, inr, ◌==◌, Bool, true, false, cond, List, refl, sym, ◌∙◌, ap, subst, arith}
 use Rattle.std.specs.Prelude.{nat_lt}
 use Rattle.std.proofs.lemmas.Bool.Decides.{nat_tests}
 use Rattle.spd_nodes.specs.declared.leaf.Leaf.{Leaf}
@@ -9,7 +9,7 @@ use Rattle.spd_nodes.proofs.TreeLaws.{tree_of-value_at}
 use Rattle.spd_nodes.proofs.ValueLaws.{value_at-join}
 use Rattle.spd_apply.specs.Halves.{yes_at, no_at, IsNotBefore}
 use Rattle.spd_apply.specs.Applied.{mapped, against, applied}
-use Rattle.spd_apply.proofs.HalfLaws.{same_level, level_of-reduced, after_le, eq-refl, ne-false}
+use Rattle.spd_apply.proofs.HalfLaws.{same_level, level_of-reduced, after_le, eq-refl}
 use Rattle.spd_apply.proofs.MeetingLaws.{GoesDown, made-whole}
 
 pub value_at-mapped : (ds : List ℕ) (b : ℕ) (f : Leaf → Leaf) (t : Tree) (p : List ℕ) → value_at ds b (mapped f t) p ≡ f (value_at ds b t p)

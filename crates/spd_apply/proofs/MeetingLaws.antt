@@ -1,5 +1,5 @@
 -- How two trees meet, and what an operation makes of them that goes down from the lower of their levels.
-use Rattle.std.proofs.Common.{◌≡◌, ℕ, zero, suc, ◌+◌, ◌-◌, ◌<◌, ◌≤◌, ◌⊎◌, inl, inr, ◌==◌, Bool, true, false, cond, List, refl, sym, ◌∙◌, subst, arith}
+use Rattle.std.proofs.Common.{◌≡◌, ℕ, zero, suc, ◌+◌, ◌<◌, ◌≤◌, ◌⊎◌, inl, inr, ◌==◌, true, false, cond, List, refl, sym, subst, arith}
 use Rattle.std.specs.Prelude.{nat_lt}
 use Rattle.std.proofs.lemmas.Bool.Decides.{nat_tests}
 use Rattle.spd_nodes.specs.Levels.{levels_of, after, is_first}
@@ -7,7 +7,7 @@ use Rattle.spd_nodes.specs.Trees.{Tree, Ends, Tests, IsFrom, IsAt, IsReduced, Ca
 use Rattle.spd_nodes.proofs.TreeLaws.{after_above}
 use Rattle.spd_apply.specs.Halves.{yes_at, no_at, AreLeaves, IsNotBefore, Fits, IsAligned}
 use Rattle.spd_apply.specs.Rules.{Making}
-use Rattle.spd_apply.proofs.HalfLaws.{Splits, splits-at, splits-past, after-next, level_of-reduced, aligned-from, aligned-fits, Joins, joins, IsFrom-at, IsFrom-lower, at-from, after_le, eq-refl, ne-false, three, not-before-from, not-before-lower}
+use Rattle.spd_apply.proofs.HalfLaws.{Splits, splits-at, splits-past, after-next, level_of-reduced, aligned-from, aligned-fits, Joins, joins, IsFrom-at, IsFrom-lower, at-from, after_le, eq-refl, ne-false, three, not-before-lower}
 
 -- the lower of the levels that two trees test first
 abbrev pub top_of : Tree → Tree → ℕ

@@ -1,12 +1,11 @@
 -- A tree with another one in its place at one value of a slot.
-use Rattle.std.proofs.Common.{◌≡◌, ℕ, zero, suc, ◌+◌, ◌-◌, ◌<◌, ◌≤◌, ◌≢◌, ◌⊎◌, inl, inr, ◌==◌, Bool, true, false, cond, List, [], ◌∷◌, get_or, set, refl, sym, ◌∙◌, ap, subst, arith}
+use Rattle.std.proofs.Common.{◌≡◌, ℕ, zero, suc, ◌+◌, ◌-◌, ◌<◌, ◌≤◌, ◌⊎◌, inl, inr, ◌==◌, Bool, true, false, cond, List, get_or, refl, sym, ◌∙◌, ap, subst, arith}
 use Rattle.std.specs.Prelude.{nat_lt}
 use Rattle.std.proofs.lemmas.Bool.Decides.{Decides-eqb, nat_tests}
 use Rattle.std.proofs.lemmas.List.{set-get_or}
 use Rattle.spd_nodes.specs.declared.leaf.Leaf.{Leaf}
-use Rattle.spd_nodes.specs.Levels.{levels_of, passes, after, is_first, InRange}
-use Rattle.spd_nodes.specs.Trees.{Tree, Ends, Tests, value_at, IsFrom, IsAt, IsReduced, CanTest, join}
-use Rattle.spd_nodes.proofs.TreeLaws.{after_above}
+use Rattle.spd_nodes.specs.Levels.{passes, after, InRange}
+use Rattle.spd_nodes.specs.Trees.{Tree, Ends, Tests, value_at, IsFrom, IsAt, IsReduced, join}
 use Rattle.spd_nodes.proofs.ValueLaws.{value_at-join}
 use Rattle.spd_apply.specs.Applied.{against}
 use Rattle.spd_apply.specs.Halves.{yes_at, no_at, IsNotBefore, Fits}

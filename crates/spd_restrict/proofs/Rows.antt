@@ -1,11 +1,10 @@
 -- The definitions on small diagrams: variables x and y with two values, present values alone.
-use Rattle.std.proofs.Common.{◌≡◌, ℕ, ◌==◌, Bool, true, false, cond, List, [], ◌∷◌, refl, pos}
-use Rattle.spd_nodes.specs.declared.leaf.Leaf.{Leaf}
+use Rattle.std.proofs.Common.{◌≡◌, ◌==◌, false, cond, [], ◌∷◌, refl, pos}
 use Rattle.spd_nodes.specs.declared.leaf.Leaf.TheVariants.{Num}
 use Rattle.spd_nodes.specs.Refs.{node_count}
 use Rattle.spd_nodes.specs.States.{Function, test_tree}
-use Rattle.spd_nodes.specs.Trees.{Tree, Ends, Tests}
-use Rattle.spd_restrict.specs.Chosen.{chosen, chosen_from, branch_functions, value_of}
+use Rattle.spd_nodes.specs.Trees.{Ends, Tests}
+use Rattle.spd_restrict.specs.Chosen.{chosen, chosen_from, value_of}
 use Rattle.spd_restrict.specs.Primed.{primed}
 use Rattle.spd_restrict.specs.Restricted.{restricted}
 

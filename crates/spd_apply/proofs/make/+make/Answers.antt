@@ -1,4 +1,4 @@
-use Rattle.std.proofs.Common.{rules, subst, sym, IfOk, IfErr, [], ◌∷◌}
+use Rattle.std.proofs.Common.{rules, subst, IfOk, IfErr, [], ◌∷◌}
 use Rattle.spd_nodes.specs.Shown.{KnowsAs, Faults}
 use Rattle.spd_apply.proofs.Steps.{did-call, did-yes, did-no, did-test, fault-yes, fault-no, can-test, join-is}
 use Rattle.spd_apply.proofs.make.+make.Goals as goal

@@ -1,4 +1,4 @@
-use Rattle.std.proofs.Common.{arith, ◌≡◌, ◌<◌, ◌+◌, length}
+use Rattle.std.proofs.Common.{arith, ◌<◌, ◌+◌, length}
 use Rattle.spd_restrict.proofs.BranchLaws.{last-stands, step-ok, step-makes, step-faults}
 use Rattle.spd_restrict.proofs.branch.+choose_from.Goals as goal
 

@@ -1,4 +1,4 @@
-use Rattle.std.proofs.Common.{rules, arith, ◌≡◌, ℕ, suc, ◌+◌, ◌-◌, ◌≤◌, true, ◌∙◌, sym, subst, IfOk, IfErr, [], ◌∷◌}
+use Rattle.std.proofs.Common.{rules, arith, ◌≡◌, suc, ◌+◌, ◌-◌, true, ◌∙◌, subst, IfOk, IfErr, [], ◌∷◌}
 use Rattle.spd_nodes.specs.Shown.{KnowsAs, Faults}
 use Rattle.spd_restrict.specs.Replaced.{CanReplace}
 use Rattle.spd_restrict.proofs.ChosenLaws.{level-in, level-room, rest-can, rest-known, rest-makes, rest-fault, level-then, can-then, join-then, makes-then-test}
