@@ -1,14 +1,13 @@
 -- What views of a diagram's nodes tell of it.
-use Rattle.std.proofs.Common.{◌≡◌, ℕ, zero, suc, ◌+◌, ◌-◌, ◌*◌, ◌<◌, ◌≤◌, Bool, true, false, cond, List, [], ◌∷◌, ◌++◌, length, get_or, take, refl, sym, ◌∙◌, ap, subst, arith, IsTrue, nat_eq, not, true≢false}
-use Rattle.std.specs.Prelude.{nat_lt, All, Contains}
+use Rattle.std.proofs.Common.{◌≡◌, ℕ, zero, suc, ◌+◌, ◌-◌, ◌*◌, ◌<◌, ◌≤◌, Bool, true, false, List, [], ◌∷◌, length, get_or, take, refl, sym, ◌∙◌, ap, subst, arith, IsTrue, nat_eq, not, true≢false}
+use Rattle.std.specs.Prelude.{nat_lt, All}
 use Rattle.std.proofs.lemmas.Bool.Decides.{Decides-eqb, nat_tests}
 use Rattle.std.proofs.lemmas.List.{take_all}
-use Rattle.std.proofs.lemmas.List.Elements.{All-contains, Contains-push, Contains-append_left}
+use Rattle.std.proofs.lemmas.List.Elements.{All-contains}
 use Rattle.spd_cons_core.specs.declared.key.Entry.{Entry}
 use Rattle.spd_nodes.specs.declared.leaf.Leaf.{Leaf}
-use Rattle.spd_nodes.specs.Levels.{levels_of, passes, slots, slot_of, level_at, after, is_first, IsTestOf}
-use Rattle.spd_nodes.specs.Trees.{Tree, Ends, Tests, value_at, IsFrom, IsReduced, IsNode, Itself, InYes, InNo}
-use Rattle.spd_nodes.specs.States.{point}
+use Rattle.spd_nodes.specs.Levels.{levels_of, slots, slot_of, level_at, after, is_first, IsTestOf}
+use Rattle.spd_nodes.specs.Trees.{Tree, Ends, Tests, IsFrom, IsReduced, IsNode, Itself, InYes, InNo}
 use Rattle.spd_nodes.specs.Shown.{Shown, IsSound, meaning}
 use Rattle.spd_nodes.specs.Refs.{HasTree, IsReached}
 use Rattle.spd_nodes.proofs.LayoutLaws.{level-plain}
