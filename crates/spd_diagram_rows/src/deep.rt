@@ -2,7 +2,7 @@
 ghost use Rattle.std.specs.Prelude.{◌≡◌, ◌<◌, IfOk, true};
 ghost use Rattle.spd_nodes.specs.Shown.{Shown};
 
-use crate::guarded::{applied, fixed, levels, mapped, primed, test};
+use crate::guarded::{applied, chosen, fixed, levels, mapped, primed, test};
 use spd_apply::{Add, TimesFloor};
 use spd_nodes::{Alone, Forest, Layout, Leaf, Level, Ref, Steps, count};
 use std::alloc::Global;
@@ -61,24 +61,26 @@ fn chain<F: Forest, L: Ledger>(
     Ok(rest)
 }
 
-/// How many nodes the chain of all levels has, its sum with itself, three times it, and it with the third variable held at
-/// its value 30 and at its last one.
+/// How many nodes the chain of all levels has, its sum with itself, three times it, it with the third variable held at
+/// its value 30 and at its last one, and it or three times it by the last variable's value.
 fn whole_counts<F: Forest, L: Ledger>(
     alloc: Global,
     forest: &mut F,
     steps: &mut Steps<L>,
-) -> Result<[usize; 5], Fail> {
+) -> Result<[usize; 6], Fail> {
     let f = chain(forest, Tested::All, steps)?;
     let sum = applied(alloc, forest, &Add, f, f, steps)?;
     let thrice = mapped(alloc, forest, &TimesFloor { g: 3, gd: 1 }, f, steps)?;
     let middle = fixed(alloc, forest, f, 2, false, 30, steps)?;
     let last = fixed(alloc, forest, f, 2, false, 63, steps)?;
+    let branch = chosen(alloc, forest, 4, false, &[f, thrice, f, thrice, f], steps)?;
     Ok([
         count(alloc, forest, f)?,
         count(alloc, forest, sum)?,
         count(alloc, forest, thrice)?,
         count(alloc, forest, middle)?,
         count(alloc, forest, last)?,
+        count(alloc, forest, branch)?,
     ])
 }
 
@@ -93,7 +95,7 @@ fn plain_counts<F: Forest, L: Ledger>(
     Ok([count(alloc, forest, f)?, count(alloc, forest, next)?])
 }
 
-fn counts_alone<L: Ledger>(alloc: Global, blank: Blank) -> Result<([usize; 5], [usize; 2]), Fail>
+fn counts_alone<L: Ledger>(alloc: Global, blank: Blank) -> Result<([usize; 6], [usize; 2]), Fail>
     requires name { blank.name ≡ L.name }
     requires parts { blank.parts ≡ L.parts }
     requires one { 0 < blank.parts }
@@ -106,11 +108,13 @@ fn counts_alone<L: Ledger>(alloc: Global, blank: Blank) -> Result<([usize; 5], [
 }
 
 /// All tests and two leaves. The third variable's plain tests are the levels 315 to 377: at value 30 level 345's leaf stands
-/// in place of what follows level 314, and at the last value 63 tests are gone.
+/// in place of what follows level 314, and at the last value 63 tests are gone. The last variable's plain tests are the
+/// levels 508 to 511: the branch tests each of the 508 levels before them, and below those the four in two ways, whose
+/// leaves are 1 and 3 below the odd levels, and 0 and 3 at the chain's end.
 #[test]
 fn chains_of_512_levels(rt: HostRuntime) -> Result<(), Fail> {
     let (whole, plain) = counts_alone::<Brand>(rt.alloc(), Blank::new(1))?;
-    assert_eq!(rt; whole, [514, 514, 514, 317, 451]);
+    assert_eq!(rt; whole, [514, 514, 514, 317, 451, 508 + 2 * 4 + 3]);
     assert_eq!(rt; plain, [258, 258]);
     Ok(())
 }
