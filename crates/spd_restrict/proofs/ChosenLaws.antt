@@ -1,5 +1,6 @@
 -- How one diagram goes in another one's place, and what the branches of a variable are.
-use Rattle.std.proofs.Common.{◌≡◌, ℕ, suc, ◌+◌, ◌<◌, ◌≤◌, ◌⊎◌, inl, inr, true, Some, List, [], ◌∷◌, refl, sym, subst, arith}
+use Rattle.std.proofs.Common.{◌≡◌, ℕ, ◌==◌, suc, ◌+◌, ◌<◌, ◌≤◌, ◌⊎◌, inl, inr, true, Some, List, [], ◌∷◌, refl, sym, subst, arith}
+use Rattle.std.proofs.lemmas.Bool.Decides.{Decides-eqb}
 use Rattle.spd_cons_core.specs.declared.key.Entry.{Entry}
 use Rattle.spd_nodes.specs.declared.layout.Level.{Level}
 use Rattle.spd_nodes.specs.declared.forest.View.{View}
@@ -11,7 +12,7 @@ use Rattle.spd_nodes.proofs.ShownLaws.{Within, makes-within, makes-then, faults-
 use Rattle.spd_nodes.proofs.StateLaws.{levels_of-slots}
 use Rattle.spd_apply.specs.declared.rule.Below.TheVariants as B
 use Rattle.spd_apply.specs.Halves.{yes_at, no_at}
-use Rattle.spd_apply.specs.Rules.{PlansTest}
+use Rattle.spd_apply.specs.Rules.{PlansBelow, PlansTest}
 use Rattle.spd_apply.specs.Views.{lower_of_views, next_yes, next_no}
 use Rattle.spd_apply.proofs.MeetingLaws.{Meets, GoesDown, descends}
 use Rattle.spd_apply.proofs.HalfLaws.{Splits, splits-fits, after-next, after_le, Joins}
@@ -19,7 +20,7 @@ use Rattle.spd_apply.proofs.PlanLaws.{Known, next_yes-is, next_no-is, MayMeetHal
 use Rattle.spd_apply.proofs.Steps.{within-no}
 use Rattle.spd_restrict.specs.Replaced.{replaced, replaced_after, MayReplace, CanReplace, IsWholeFrom}
 use Rattle.spd_restrict.proofs.SlotLaws.{after-before}
-use Rattle.spd_restrict.proofs.ReplacedLaws.{replaced-goes, whole-from, whole-at, fits-next, joins-replaced_after}
+use Rattle.spd_restrict.proofs.ReplacedLaws.{replaced-goes, replaced-itself, whole-from, whole-at, fits-next, joins-replaced_after}
 
 module _ (first value : ℕ) (s : Shown) (o : IsSound s) (f g : Entry) (kf : s.knows f ≡ true) (kg : s.knows g ≡ true) (may : MayReplace first value s.sizes (s.tree f) (s.tree g)) where
   abbrev ds : List ℕ
@@ -61,6 +62,17 @@ module _ (first value : ℕ) (s : Shown) (o : IsSound s) (f g : Entry) (kf : s.k
       → PlansTest (replaced first value) (MayReplace first value s.sizes) s f g l.0 (B.Pair (next_yes a f l) (next_yes b g l)) (B.Pair (next_no a f l) (next_no b g l))
   replaces-at a b l h i e below =
       plans-at (replaced first value) (MayReplace first value s.sizes) first s o f g kf kg may.aligned goes a b l h i e below (replace-halves l.0 below)
+
+  -- one entry twice is the answer
+  pub replaces-same : (f.0 == g.0) ≡ true → PlansBelow (replaced first value) (MayReplace first value s.sizes) s f g (B.Known f)
+  replaces-same e =
+      let q : f.0 ≡ g.0 = (Decides-eqb f.0 g.0).0 e in
+      let same : f ≡ g = λ i. record { 0 = q i } in
+      record {
+        is = subst (λ (h : Entry). replaced first value (s.tree f) (s.tree h) ≡ s.tree f) same (replaced-itself ds may.slot first may.end may.is_slot value may.value_in (s.tree f) (o.reduced f kf) may.left);
+        goes = kf;
+        smaller = omega arith;
+      }
 
 -- One test of a slot after the other, in two entries whose views are these.
 module _ (n : ℕ) (l : Level) (s : Shown) (o : IsSound s) (f g : Entry) (kf : s.knows f ≡ true) (kg : s.knows g ≡ true) (can : CanReplace n l.0 s.sizes (s.tree f) (s.tree g))

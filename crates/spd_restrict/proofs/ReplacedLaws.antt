@@ -6,6 +6,7 @@ use Rattle.std.proofs.lemmas.List.{set-get_or}
 use Rattle.spd_nodes.specs.declared.leaf.Leaf.{Leaf}
 use Rattle.spd_nodes.specs.Levels.{passes, after, InRange}
 use Rattle.spd_nodes.specs.Trees.{Tree, Ends, Tests, value_at, IsFrom, IsAt, IsReduced, join}
+use Rattle.spd_nodes.proofs.TreeLaws.{join-same, join-differ}
 use Rattle.spd_nodes.proofs.ValueLaws.{value_at-join}
 use Rattle.spd_apply.specs.Applied.{against}
 use Rattle.spd_apply.specs.Halves.{yes_at, no_at, IsNotBefore, Fits}
@@ -14,6 +15,7 @@ use Rattle.spd_apply.proofs.AppliedLaws.{value_at-against}
 use Rattle.spd_apply.proofs.MeetingLaws.{GoesDown, made-whole}
 use Rattle.spd_restrict.specs.Restricted.{IsSlot}
 use Rattle.spd_restrict.specs.Replaced.{replaced_after, down_to, replaced, IsWholeFrom}
+use Rattle.spd_restrict.proofs.CofactorLaws.{Parts, parts}
 use Rattle.spd_restrict.proofs.SlotLaws.{after-in, after-before, first-is, passes-in}
 
 -- the leaf of a half is the tree's leaf, where the test holds or doesn't
@@ -109,6 +111,15 @@ module _ (ds : List ℕ) (slot first end : ℕ) (s : IsSlot ds slot first end) w
 
 pub fits-next : (ds : List ℕ) (l : ℕ) (t : Tree) → l + 1 < after ds l → Splits ds l t → Fits ds (l + 1) (no_at l t)
 fits-next ds l t h s = elim s.no_fits [ inl f ↦ inl (rw (after-next ds l h) f) | inr f ↦ inr f.0 ]
+
+-- a test of a tree's halves is the tree
+pub itself-join : (ds : List ℕ) (l : ℕ) (t : Tree) → IsReduced ds 0 t → join l (yes_at l t) (no_at l t) ≡ t
+itself-join ds l (Ends a) r = join-same l (Ends a)
+itself-join ds l (Tests k y n) r = go (k == l) refl
+  where
+    go : (b : Bool) → (k == l) ≡ b → join l (cond b y (Tests k y n)) (cond b n (Tests k y n)) ≡ Tests k y n
+    go true e = let i : k ≡ l = (Decides-eqb k l).0 e in rw (sym i) (join-differ k y n r.2)
+    go false e = join-same l (Tests k y n)
 
 -- at a slot's test it may be such a test's child
 pub joins-replaced_after : (ds : List ℕ) (n l : ℕ) (t u : Tree) → l + n < after ds l → IsReduced ds 0 t → IsReduced ds 0 u → Fits ds l t → Fits ds l u → Joins ds l (replaced_after n l t u)
@@ -237,3 +248,34 @@ module _ (ds : List ℕ) (slot first end : ℕ) (s : IsSlot ds slot first end) (
   pub can-replace : (t u : Tree) → IsReduced ds 0 t → IsReduced ds 0 u → IsNotBefore first t → IsNotBefore first u → IsWholeFrom ds first t → IsWholeFrom ds first u
       → (first + value < after ds first) × Fits ds first t × Fits ds first u
   can-replace t u r q f g i j = (room, fits-first ds first t r f i, fits-first ds first u q g j)
+
+  -- a tree in its own place at a slot's test is itself
+  itself-after : (n l : ℕ) (t : Tree) → l + n < after ds l → IsReduced ds 0 t → Fits ds l t → replaced_after n l t t ≡ t
+  itself-after zero l t i r f = itself-join ds l t r
+  itself-after (suc n) l t i r f =
+      let a : Splits ds l t = splits-fits ds l t (omega arith) r f in
+      let next : l + 1 < after ds l = omega arith in
+      let e : after ds (l + 1) ≡ after ds l = after-next ds l next in
+      rw (itself-after n (l + 1) (no_at l t) (omega arith) a.no_reduced (fits-next ds l t next a)) (itself-join ds l t r)
+
+  -- and so is a tree in its own place
+  pub replaced-itself : (t : Tree) → IsReduced ds 0 t → IsWholeFrom ds first t → replaced first value t t ≡ t
+  replaced-itself (Ends a) r w = itself-after value first (Ends a) room r (inl tt)
+  replaced-itself (Tests k y n) r w = go (three k first) (λ v. replaced-itself y q.yes_reduced v) (λ v. replaced-itself n q.no_reduced v)
+    where
+      q : Parts ds k y n
+      q = parts ds k y n r
+
+      no-whole : k < first → IsWholeFrom ds first n
+      no-whole b = elim q.no_fits [ inl f ↦ whole-from ds first (after ds k) n f | inr f ↦ whole-at ds first (k + 1) n (omega (arith, f.1, after-before ds slot first end k s b)) f.0 ]
+
+      past : first ≤ k → replaced first value (Tests k y n) (Tests k y n) ≡ Tests k y n
+      past b = replaced-bottom first value (Tests k y n) (Tests k y n) b b ∙ itself-after value first (Tests k y n) room r (fits-first ds first (Tests k y n) r b w)
+
+      go : (k ≡ first) ⊎ (k < first) ⊎ (first < k) → (IsWholeFrom ds first y → replaced first value y y ≡ y) → (IsWholeFrom ds first n → replaced first value n n ≡ n)
+          → replaced first value (Tests k y n) (Tests k y n) ≡ Tests k y n
+      go (inl b) iy jn = past (omega arith)
+      go (inr (inl b)) iy jn =
+          let both : replaced first value (Tests k y n) (Tests k y n) ≡ join k (replaced first value y y) (replaced first value n n) = rw (eq-refl k) at (join-left first value k y n (Tests k y n) b (omega arith)) in
+          both ∙ rw (iy (whole-from ds first (after ds k) y q.yes_from), jn (no-whole b)) (join-differ k y n r.2)
+      go (inr (inr b)) iy jn = past (omega arith)

@@ -10,7 +10,7 @@ use std::alloc::Global;
 use std::sync::ledger::Ledger;
 
 /// One diagram at one value of a variable, primed or plain, that isn't its last one, and another one elsewhere. `first` is
-/// the number of the variable's first test.
+/// the number of the variable's first test. It goes no further where both are the same diagram.
 #[derive(Clone, Copy)]
 struct AtOneValue {
     first: u16,
@@ -56,6 +56,9 @@ impl Rule for AtOneValue {
     ghost ends = { λ r sizes t u. MeetAt r.first t u };
 
     fn plan<F: Forest>(&self, forest: &mut F, f: Ref, g: Ref) -> Plan {
+        if f == g {
+            return Plan::Below(Below::Known(f));
+        }
         let a = forest.view(f);
         let b = forest.view(g);
         match lower_level(a, b) {
