@@ -1,7 +1,7 @@
 -- The definitions, computed on small models by hand.
-use Rattle.std.proofs.Common.{◌≡◌, ℕ, true, false, List, [], ◌∷◌, ◌++◌, ℤ, pos, negsuc, codes, decimal, flat_map, refl, if◌then◌else◌, ◌==◌, slice_index}
+use Rattle.std.proofs.Common.{◌≡◌, ℕ, true, false, List, [], ◌∷◌, ◌++◌, ℤ, pos, negsuc, codes, decimal, flat_map, refl, if◌then◌else◌, ◌==◌, slice_index, None}
 use Rattle.std.specs.Ordering.{int_eq}
-use Rattle.spd_model.specs.Reduced.{leaf, branch, also, none, reduced, nodes_of}
+use Rattle.spd_model.specs.Reduced.{Node, reduced, listed}
 use Rattle.spd_scaled.specs.Scaled.{floor_div, ceil_div}
 use Rattle.spd_model.specs.declared.tree.Tree.{Tree, Leaf, Branch}
 use Rattle.spd_model.specs.declared.tree.Tree.TheBlock.{shape-the_row-Tree-0, hidden-the_row-Tree-0}
@@ -43,6 +43,7 @@ keeping = record {
   reward = Branch 0 false (one_leaf ∷ zero_leaf ∷ []) ∷ [];
   discount = 500000;
   tolerance = pos 100000000;
+  horizon = None;
 }
 
 states-keeping : states (sizes keeping) ≡ (0 ∷ []) ∷ (1 ∷ []) ∷ []
@@ -100,12 +101,13 @@ mixing = record {
   reward = Branch 0 false (one_leaf ∷ zero_leaf ∷ zero_leaf ∷ []) ∷ [];
   discount = 500000;
   tolerance = pos 100000000;
+  horizon = None;
 }
 
 abbrev start_mixing : List ℕ → ℤ
 start_mixing = at (sizes mixing) (pos 1000000000 ∷ pos 0 ∷ pos 0 ∷ [])
 
-expectation-mixing : (expectation floor_div mixing mix start_mixing (0 ∷ []) ≡ pos 333333333) × (expectation ceil_div mixing mix start_mixing (0 ∷ []) ≡ pos 333333334)
+expectation-mixing : (expectation floor_div mixing start_mixing mix (0 ∷ []) ≡ pos 333333333) × (expectation ceil_div mixing start_mixing mix (0 ∷ []) ≡ pos 333333334)
 unfolding shape-the_row-Tree-0 hidden-the_row-Tree-0 denote.Hole.Carrier.hidden
 expectation-mixing = (refl, refl)
 
@@ -160,6 +162,7 @@ rolling = record {
   reward = Branch 0 false (zero_leaf ∷ Leaf (pos 400000000000) ∷ one_leaf ∷ []) ∷ [];
   discount = 500000;
   tolerance = pos 100000000;
+  horizon = None;
 }
 
 turn_1-rolling : turn rolling (pos 1000000000) 1 ≡ pos 300000000 ∷ pos 300000000 ∷ pos 1500000000 ∷ []
@@ -175,6 +178,6 @@ unfolding shape-the_row-Tree-0 hidden-the_row-Tree-0 denote.Hole.Carrier.hidden
 residual-rolling = refl
 
 -- a branch on two variables is left out where its subtrees are equal, and equal subtrees are one node
-nodes-two : nodes_of int_eq (reduced int_eq (2 ∷ 2 ∷ []) (λ s. pos (slice_index s 1)))
-    ≡ leaf (pos 0) ∷ leaf (pos 1) ∷ branch 1 (also (leaf (pos 0)) (also (leaf (pos 1)) none)) ∷ []
-nodes-two = refl
+listed-two : listed int_eq (reduced int_eq (2 ∷ 2 ∷ []) (λ s. pos (slice_index s 1)))
+    ≡ Node.leaf (pos 0) ∷ Node.leaf (pos 1) ∷ Node.branch 1 (0 ∷ 1 ∷ []) ∷ []
+listed-two = refl
