@@ -1,3 +1,4 @@
+pub mod CallerLemmas
+mod Walks
 mod Rows
 mod RowsMany
-pub mod TreeLaws

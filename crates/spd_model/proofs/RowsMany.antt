@@ -40,7 +40,7 @@ start-many : start_of many ≡ pos 1000000000 ∷ pos 1333333333 ∷ pos 2222222
 unfolding shape-the_row-Tree-0 hidden-the_row-Tree-0 denote.Hole.Carrier.hidden
 start-many = refl
 
-text-t0 : result_text many 0 (pos 0) ≡ 
+text-t0 : result_text many 0 (pos 0) ≡
     line (codes "spd result 1" ∷ [])
     ++ line (codes "status" ∷ codes "limit" ∷ [])
     ++ line (codes "turn" ∷ decimal 0 ∷ [])
@@ -53,7 +53,7 @@ text-t0 : result_text many 0 (pos 0) ≡
 unfolding shape-the_row-Tree-0 hidden-the_row-Tree-0 denote.Hole.Carrier.hidden
 text-t0 = refl
 
-text-t2 : result_text many 2 (pos 100000000) ≡ 
+text-t2 : result_text many 2 (pos 100000000) ≡
     line (codes "spd result 1" ∷ [])
     ++ line (codes "status" ∷ codes "limit" ∷ [])
     ++ line (codes "turn" ∷ decimal 2 ∷ [])
@@ -66,7 +66,7 @@ text-t2 : result_text many 2 (pos 100000000) ≡
 unfolding shape-the_row-Tree-0 hidden-the_row-Tree-0 denote.Hole.Carrier.hidden
 text-t2 = refl
 
-text-t1 : result_text many 1 (pos 500000000) ≡ 
+text-t1 : result_text many 1 (pos 500000000) ≡
     line (codes "spd result 1" ∷ [])
     ++ line (codes "status" ∷ codes "limit" ∷ [])
     ++ line (codes "turn" ∷ decimal 1 ∷ [])
