@@ -3,6 +3,7 @@
 
 mod process;
 mod state;
+mod states;
 mod tree;
 
 pub use process::{Action, Model, Var};
