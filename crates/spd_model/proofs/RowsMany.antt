@@ -1,5 +1,6 @@
 -- The definitions, computed on small models of several variables by hand.
 use Rattle.std.proofs.Common.{◌≡◌, ℕ, true, false, List, [], ◌∷◌, ◌++◌, ℤ, pos, negsuc, codes, decimal, flat_map, refl, ◌==◌, None, Some}
+use Rattle.hex.specs.Hex.{encode_with}
 use Rattle.spd_scaled.specs.Scaled.{floor_div, ceil_div}
 use Rattle.spd_model.specs.declared.tree.Tree.{Tree, Leaf, Named, Branch}
 use Rattle.spd_model.specs.declared.tree.Tree.TheBlock.{shape-the_row-Tree-0, hidden-the_row-Tree-0}
@@ -12,6 +13,11 @@ use Rattle.spd_model.specs.Backup.{expectation}
 use Rattle.spd_model.specs.States.{sizes, at}
 use Rattle.spd_model.specs.Turns.{turn, start_of}
 use Rattle.spd_model.specs.ResultText.{line, units, result_text}
+
+-- the SHA-256 of some file
+abbrev digest : List ℕ
+digest =
+    161 ∷ 225 ∷ 7 ∷ 39 ∷ 35 ∷ 121 ∷ 171 ∷ 140 ∷ 107 ∷ 235 ∷ 244 ∷ 189 ∷ 120 ∷ 192 ∷ 200 ∷ 123 ∷ 140 ∷ 187 ∷ 159 ∷ 54 ∷ 15 ∷ 53 ∷ 97 ∷ 52 ∷ 14 ∷ 7 ∷ 111 ∷ 129 ∷ 12 ∷ 154 ∷ 217 ∷ 163 ∷ []
 
 abbrev third : Tree
 third = Branch 2 true ((Leaf (pos 333333333333)) ∷ (Leaf (pos 333333333333)) ∷ (Leaf (pos 333333333334)) ∷ [])
@@ -40,8 +46,9 @@ start-many : start_of many ≡ pos 1000000000 ∷ pos 1333333333 ∷ pos 2222222
 unfolding shape-the_row-Tree-0 hidden-the_row-Tree-0 denote.Hole.Carrier.hidden
 start-many = refl
 
-text-t0 : result_text many 0 (pos 0) ≡
-    line (codes "spd result 1" ∷ [])
+text-t0 : result_text digest many 0 (pos 0) ≡
+    line (codes "spd result 2" ∷ [])
+    ++ line (codes "model" ∷ codes "a1e107272379ab8c6bebf4bd78c0c87b8cbb9f360f3561340e076f810c9ad9a3" ∷ [])
     ++ line (codes "status" ∷ codes "limit" ∷ [])
     ++ line (codes "turn" ∷ decimal 0 ∷ [])
     ++ line (codes "residual" ∷ units (pos 800000001) ∷ [])
@@ -50,11 +57,12 @@ text-t0 : result_text many 0 (pos 0) ≡
     ++ (line (codes "value" ∷ decimal 9 ∷ []) ++ flat_map line ((decimal 0 ∷ codes "leaf" ∷ units (pos 1000000000) ∷ []) ∷ (decimal 1 ∷ codes "leaf" ∷ units (pos 1333333333) ∷ []) ∷ (decimal 2 ∷ codes "leaf" ∷ units (pos 222222223) ∷ []) ∷ (decimal 3 ∷ codes "branch" ∷ codes "y" ∷ decimal 0 ∷ decimal 1 ∷ decimal 2 ∷ []) ∷ (decimal 4 ∷ codes "leaf" ∷ units (pos 0) ∷ []) ∷ (decimal 5 ∷ codes "leaf" ∷ units (pos 333333333) ∷ []) ∷ (decimal 6 ∷ codes "leaf" ∷ units (negsuc 777777776) ∷ []) ∷ (decimal 7 ∷ codes "branch" ∷ codes "y" ∷ decimal 4 ∷ decimal 5 ∷ decimal 6 ∷ []) ∷ (decimal 8 ∷ codes "branch" ∷ codes "x" ∷ decimal 3 ∷ decimal 7 ∷ []) ∷ []))
     ++ (line (codes "policy" ∷ decimal 3 ∷ []) ++ flat_map line ((decimal 0 ∷ codes "leaf" ∷ codes "wait" ∷ []) ∷ (decimal 1 ∷ codes "leaf" ∷ codes "go" ∷ []) ∷ (decimal 2 ∷ codes "branch" ∷ codes "x" ∷ decimal 0 ∷ decimal 1 ∷ []) ∷ []))
     ++ line (codes "end" ∷ [])
-unfolding shape-the_row-Tree-0 hidden-the_row-Tree-0 denote.Hole.Carrier.hidden
+unfolding shape-the_row-Tree-0 hidden-the_row-Tree-0 denote.Hole.Carrier.hidden encode_with
 text-t0 = refl
 
-text-t2 : result_text many 2 (pos 100000000) ≡
-    line (codes "spd result 1" ∷ [])
+text-t2 : result_text digest many 2 (pos 100000000) ≡
+    line (codes "spd result 2" ∷ [])
+    ++ line (codes "model" ∷ codes "a1e107272379ab8c6bebf4bd78c0c87b8cbb9f360f3561340e076f810c9ad9a3" ∷ [])
     ++ line (codes "status" ∷ codes "limit" ∷ [])
     ++ line (codes "turn" ∷ decimal 2 ∷ [])
     ++ line (codes "residual" ∷ units (pos 621000001) ∷ [])
@@ -63,11 +71,12 @@ text-t2 : result_text many 2 (pos 100000000) ≡
     ++ (line (codes "value" ∷ decimal 8 ∷ []) ++ flat_map line ((decimal 0 ∷ codes "leaf" ∷ units (pos 2456666666) ∷ []) ∷ (decimal 1 ∷ codes "leaf" ∷ units (pos 2789999999) ∷ []) ∷ (decimal 2 ∷ codes "leaf" ∷ units (pos 1678888889) ∷ []) ∷ (decimal 3 ∷ codes "branch" ∷ codes "y" ∷ decimal 0 ∷ decimal 1 ∷ decimal 2 ∷ []) ∷ (decimal 4 ∷ codes "leaf" ∷ units (pos 1137875000) ∷ []) ∷ (decimal 5 ∷ codes "leaf" ∷ units (pos 739590278) ∷ []) ∷ (decimal 6 ∷ codes "branch" ∷ codes "y" ∷ decimal 4 ∷ decimal 5 ∷ decimal 5 ∷ []) ∷ (decimal 7 ∷ codes "branch" ∷ codes "x" ∷ decimal 3 ∷ decimal 6 ∷ []) ∷ []))
     ++ (line (codes "policy" ∷ decimal 3 ∷ []) ++ flat_map line ((decimal 0 ∷ codes "leaf" ∷ codes "wait" ∷ []) ∷ (decimal 1 ∷ codes "leaf" ∷ codes "go" ∷ []) ∷ (decimal 2 ∷ codes "branch" ∷ codes "x" ∷ decimal 0 ∷ decimal 1 ∷ []) ∷ []))
     ++ line (codes "end" ∷ [])
-unfolding shape-the_row-Tree-0 hidden-the_row-Tree-0 denote.Hole.Carrier.hidden
+unfolding shape-the_row-Tree-0 hidden-the_row-Tree-0 denote.Hole.Carrier.hidden encode_with
 text-t2 = refl
 
-text-t1 : result_text many 1 (pos 500000000) ≡
-    line (codes "spd result 1" ∷ [])
+text-t1 : result_text digest many 1 (pos 500000000) ≡
+    line (codes "spd result 2" ∷ [])
+    ++ line (codes "model" ∷ codes "a1e107272379ab8c6bebf4bd78c0c87b8cbb9f360f3561340e076f810c9ad9a3" ∷ [])
     ++ line (codes "status" ∷ codes "limit" ∷ [])
     ++ line (codes "turn" ∷ decimal 1 ∷ [])
     ++ line (codes "residual" ∷ units (pos 850611112) ∷ [])
@@ -76,7 +85,7 @@ text-t1 : result_text many 1 (pos 500000000) ≡
     ++ (line (codes "value" ∷ decimal 6 ∷ []) ++ flat_map line ((decimal 0 ∷ codes "leaf" ∷ units (pos 1933333332) ∷ []) ∷ (decimal 1 ∷ codes "leaf" ∷ units (pos 759444445) ∷ []) ∷ (decimal 2 ∷ codes "branch" ∷ codes "y" ∷ decimal 0 ∷ decimal 0 ∷ decimal 1 ∷ []) ∷ (decimal 3 ∷ codes "leaf" ∷ units (pos 172777778) ∷ []) ∷ (decimal 4 ∷ codes "branch" ∷ codes "y" ∷ decimal 1 ∷ decimal 3 ∷ decimal 3 ∷ []) ∷ (decimal 5 ∷ codes "branch" ∷ codes "x" ∷ decimal 2 ∷ decimal 4 ∷ []) ∷ []))
     ++ (line (codes "policy" ∷ decimal 3 ∷ []) ++ flat_map line ((decimal 0 ∷ codes "leaf" ∷ codes "wait" ∷ []) ∷ (decimal 1 ∷ codes "leaf" ∷ codes "go" ∷ []) ∷ (decimal 2 ∷ codes "branch" ∷ codes "x" ∷ decimal 0 ∷ decimal 1 ∷ []) ∷ []))
     ++ line (codes "end" ∷ [])
-unfolding shape-the_row-Tree-0 hidden-the_row-Tree-0 denote.Hole.Carrier.hidden
+unfolding shape-the_row-Tree-0 hidden-the_row-Tree-0 denote.Hole.Carrier.hidden encode_with
 text-t1 = refl
 
 -- two variables of which the first is summed out first: the other order gives 1 and 3
@@ -139,8 +148,9 @@ turn_1-linking : turn linking (pos 0) 1 ≡ pos 1500000000 ∷ pos 1000000000 �
 unfolding shape-the_row-Tree-0 hidden-the_row-Tree-0 denote.Hole.Carrier.hidden
 turn_1-linking = refl
 
-text-linking : result_text linking 10 (pos 0) ≡
-    line (codes "spd result 1" ∷ [])
+text-linking : result_text digest linking 10 (pos 0) ≡
+    line (codes "spd result 2" ∷ [])
+    ++ line (codes "model" ∷ codes "a1e107272379ab8c6bebf4bd78c0c87b8cbb9f360f3561340e076f810c9ad9a3" ∷ [])
     ++ line (codes "status" ∷ codes "done" ∷ [])
     ++ line (codes "turn" ∷ decimal 5 ∷ [])
     ++ line (codes "residual" ∷ units (pos 15625000) ∷ [])
@@ -149,7 +159,7 @@ text-linking : result_text linking 10 (pos 0) ≡
     ++ (line (codes "value" ∷ decimal 7 ∷ []) ++ flat_map line ((decimal 0 ∷ codes "leaf" ∷ units (pos 1968750000) ∷ []) ∷ (decimal 1 ∷ codes "leaf" ∷ units (pos 1000000000) ∷ []) ∷ (decimal 2 ∷ codes "branch" ∷ codes "y" ∷ decimal 0 ∷ decimal 1 ∷ []) ∷ (decimal 3 ∷ codes "leaf" ∷ units (pos 968750000) ∷ []) ∷ (decimal 4 ∷ codes "leaf" ∷ units (pos 0) ∷ []) ∷ (decimal 5 ∷ codes "branch" ∷ codes "y" ∷ decimal 3 ∷ decimal 4 ∷ []) ∷ (decimal 6 ∷ codes "branch" ∷ codes "x" ∷ decimal 2 ∷ decimal 5 ∷ []) ∷ []))
     ++ (line (codes "policy" ∷ decimal 1 ∷ []) ++ flat_map line ((decimal 0 ∷ codes "leaf" ∷ codes "go" ∷ []) ∷ []))
     ++ line (codes "end" ∷ [])
-unfolding shape-the_row-Tree-0 hidden-the_row-Tree-0 denote.Hole.Carrier.hidden
+unfolding shape-the_row-Tree-0 hidden-the_row-Tree-0 denote.Hole.Carrier.hidden encode_with
 text-linking = refl
 
 no_sum-linking : first_wrong_sum linking ≡ None

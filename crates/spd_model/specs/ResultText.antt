@@ -2,6 +2,7 @@
 use Rattle.std.specs.Prelude.{ℕ, Bool, ◌++◌, ◌==◌, List, [], ◌∷◌, length, map, flat_map, codes, decimal, ℤ, slice_get, Some, None, zip}
 use Rattle.std.specs.List.{join_with_byte, enumerate_from}
 use Rattle.std.specs.Ordering.{int_eq}
+use Rattle.hex.specs.Hex.{encode_lower}
 use Rattle.spd_scaled.specs.Units.{units_text}
 use Rattle.spd_model.specs.declared.Why.{Why}
 use Rattle.spd_model.specs.declared.Why.TheVariants.{Done, Limit}
@@ -86,10 +87,11 @@ nodes_text text name word nodes =
 abbrev pub place_line : Process → Place → List ℕ
 place_line m p = line ((codes "at" ∷ state_words m p.state) ++ side_text p.side ∷ action_name m p.action ∷ [])
 
--- the text of a result
-abbrev pub text_of : Process → Why → Iterate → List ℕ
-text_of m why x =
-    line (codes "spd result 1" ∷ [])
+-- The text of a result. `digest` is that of the model's file, 32 bytes, which are written as 64 hexadecimal digits.
+abbrev pub text_of : List ℕ → Process → Why → Iterate → List ℕ
+text_of digest m why x =
+    line (codes "spd result 2" ∷ [])
+    ++ line (codes "model" ∷ encode_lower digest ∷ [])
     ++ line (codes "status" ∷ why_text why ∷ [])
     ++ line (codes "turn" ∷ decimal x.turn ∷ [])
     ++ line (codes "residual" ∷ units x.residual ∷ [])
@@ -100,5 +102,5 @@ text_of m why x =
     ++ line (codes "end" ∷ [])
 
 -- the result text of a process at a turn limit and a span: of the turn at which its run stops
-abbrev pub result_text : Process → ℕ → ℤ → List ℕ
-result_text m turns span = text_of m (stop_of m turns span).why (result_of m turns span)
+abbrev pub result_text : List ℕ → Process → ℕ → ℤ → List ℕ
+result_text digest m turns span = text_of digest m (stop_of m turns span).why (result_of m turns span)
