@@ -6,7 +6,7 @@ use Rattle.std.proofs.lemmas.Bool.{cases_lt}
 use Rattle.std.proofs.lemmas.Int.{ints}
 use Rattle.std.proofs.lemmas.List.{get_or_past}
 use Rattle.std.proofs.lemmas.List.Elements.{All-nil, All-cons, All-head, All-tail, All-map, All-contains_itself, All-weaker}
-use Rattle.std.proofs.Math.ListN.{length-map, drop_of_length-le}
+use Rattle.std.proofs.Math.ListN.{length-map}
 use Rattle.spd_scaled.specs.Scaled.{IsWithin, floor_div, ceil_div}
 use Rattle.spd_scaled.proofs.CallerLemmas.Ring.{*ℤ_comm, *ℤ_mono}
 use Rattle.spd_scaled.proofs.CallerLemmas.DivisionLaws.{IsWithin-floor_div, IsWithin-ceil_div}
@@ -22,7 +22,7 @@ use Rattle.spd_model.specs.Ranges.{Range, is_same, is_before, with_range, in_ord
 use Rattle.spd_model.specs.Turns.{start_of, ranges_of, next_of, turn, value_limit, IsBounded, gap_above, gap_below, residual_of}
 use Rattle.spd_model.proofs.CallerLemmas.Sums.{sum_below_within}
 use Rattle.spd_model.proofs.CallerLemmas.Greatest.{max_within, fold-int_max_within, greatest_within}
-use Rattle.spd_model.proofs.CallerLemmas.StateOrder.{All-table_of, IsState-drop, length-sizes}
+use Rattle.spd_model.proofs.CallerLemmas.StateOrder.{All-table_of, IsState-drop, IsState-none, length-sizes}
 use Rattle.spd_model.proofs.CallerLemmas.Chances.{Chance, AreChances, chances_of}
 
 -- what is within the limit
@@ -86,10 +86,9 @@ module _ (m : Process) (law : IsLawful m) (valid : IsValid m) where
   pub return_limited : (round : Rounding) (k : KeepsWithin round) (w : List ℕ → ℤ) → IsBounded (sizes m) w
       → (a : Action) → Contains m.actions a → IsBounded (sizes m) (return_of round m (expectation round m w) a)
   return_limited round k w bounded a offered s is =
-      let none_left : drop (length m.vars) (sizes m) ≡ [] = drop_of_length-le (sizes m) (omega (arith, length-sizes m)) in
       return_within round k (reward_of m a s) m.discount _ (IsWithin-from_abs reward_limit _ (valid.rewards a offered s is)) law.discount
       (expected_limited round k (sizes m) (probability m a s) (chances_of m valid a offered s is) w bounded (length m.vars) [] (omega (arith, length-sizes m))
-      (subst (λ l. IsState l []) (sym none_left) tt))
+      (IsState-none (sizes m) (length m.vars) (omega (arith, length-sizes m))))
 
   best_limited : (f : Action → List ℕ → ℤ) → ((a : Action) → Contains m.actions a → IsBounded (sizes m) (f a))
       → IsBounded (sizes m) (λ s. greatest (map (λ a. f a s) m.actions))

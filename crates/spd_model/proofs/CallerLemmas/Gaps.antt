@@ -7,7 +7,7 @@ use Rattle.std.proofs.lemmas.Bool.{false≢true, or_right}
 use Rattle.std.proofs.lemmas.Int.{ints, int_max_is, fold-int_max_reached, fold-int_max_bounds}
 use Rattle.std.proofs.lemmas.List.{get_or-map}
 use Rattle.std.proofs.lemmas.Option.{slice_get-map, slice_get_within, same_Some}
-use Rattle.std.proofs.Math.ListN.{length-map, drop_of_length-le}
+use Rattle.std.proofs.Math.ListN.{length-map}
 use Rattle.std.proofs.lemmas.List.Elements.{All-weaker, All-contains_itself}
 use Rattle.spd_scaled.specs.Scaled.{floor_div, ceil_div}
 use Rattle.spd_scaled.proofs.CallerLemmas.Ring.{≤ℤ_trans, *ℤ_mono_right, int_eq-holds}
@@ -20,7 +20,7 @@ use Rattle.spd_model.specs.Backup.{expected_by, low_of, high_of, best_low, best_
 use Rattle.spd_model.specs.Turns.{gap_above, gap_below, residual_of}
 use Rattle.spd_model.proofs.CallerLemmas.Sums.{sum_below_mono}
 use Rattle.spd_model.proofs.CallerLemmas.Greatest.{greatest_ordered, greatest_at_least, greatest_reached, first_place_reads}
-use Rattle.spd_model.proofs.CallerLemmas.StateOrder.{IsState-get_or, IsState-drop, length-states, length-sizes, All-table_of_back}
+use Rattle.spd_model.proofs.CallerLemmas.StateOrder.{IsState-get_or, IsState-drop, IsState-none, length-states, length-sizes, All-table_of_back}
 use Rattle.spd_model.proofs.CallerLemmas.Chances.{Chance, AreChances, chances_of}
 
 floor-≤ℤ-ceil : (x y d : ℤ) → pos 0 <ℤ d → x ≤ℤ y → floor_div x d ≤ℤ ceil_div y d
@@ -57,9 +57,8 @@ has_gap m w r s = int_eq r (gap_above m w s) || int_eq r (gap_below m w s)
 module _ (m : Process) (valid : IsValid m) (w : List ℕ → ℤ) where
   return_ordered : (s : List ℕ) → IsState (sizes m) s → (a : Action) → Contains m.actions a → low_of m w a s ≤ℤ high_of m w a s
   return_ordered s is a offered =
-      let none_left : drop (length m.vars) (sizes m) ≡ [] = drop_of_length-le (sizes m) (omega (arith, length-sizes m)) in
       let e = expected_ordered (sizes m) (probability m a s) (chances_of m valid a offered s is) w (length m.vars) [] (omega (arith, length-sizes m))
-      (subst (λ l. IsState l []) (sym none_left) tt) in
+      (IsState-none (sizes m) (length m.vars) (omega (arith, length-sizes m))) in
       let d = floor-≤ℤ-ceil _ _ (pos discount_one) (omega (arith, ints)) (*ℤ_mono_right (pos m.discount) _ _ (omega (arith, ints)) e) in
       omega (arith, ints, d)
 
