@@ -5,6 +5,8 @@ pub mod Lawful
 pub mod Numbers
 pub mod States
 pub mod Order
+pub mod StatePairs
+pub mod Chosen
 pub mod Chances
 pub mod Backup
 pub mod Ranges
