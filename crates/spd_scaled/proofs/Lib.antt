@@ -3,4 +3,5 @@ pub mod DivisionLaws
 pub mod Magnitude
 mod TowardZero
 pub mod UnitsLaws
+mod DecimalUnits
 mod Rows
