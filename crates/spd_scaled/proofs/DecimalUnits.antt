@@ -115,6 +115,7 @@ told_from places negative digits (pos p) = by_rest (eqb ((digits * 10 ^ places) 
   where
     d : Decimal
     d = record { negative = negative; digits = digits; places = pos p }
+
     by_rest : (b : Bool) → eqb ((digits * 10 ^ places) % 10 ^ p) 0 ≡ b
         → IsScaled places (record { negative = negative; digits = digits; places = pos p }) (signed_step negative (cond b (limited ((digits * 10 ^ places) / 10 ^ p)) (Err TooFine)))
     by_rest true e =

@@ -4,4 +4,5 @@ pub mod Magnitude
 mod TowardZero
 pub mod UnitsLaws
 mod DecimalUnits
+mod DecimalParts
 mod Rows

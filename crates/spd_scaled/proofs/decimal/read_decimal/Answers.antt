@@ -1,0 +1,7 @@
+use Rattle.spd_scaled.proofs.decimal.read_decimal.Goals as goal
+
+pub returns-clause-writes : goal.returns-clause-writes
+returns-clause-writes c = ?
+
+pub returns-clause-every : goal.returns-clause-every
+returns-clause-every c = ?
