@@ -1,5 +1,5 @@
 -- The parts of the text of a number: what the code reads of it from left to right.
-use Rattle.std.proofs.Common.{◌≡◌, ◌≢◌, ℕ, zero, suc, ◌+◌, ◌-◌, ◌*◌, ◌^◌, ◌<◌, ◌≤◌, Bool, true, false, cond, not, ◌&&◌, ◌||◌, eqb, ltb, leb, List, [], ◌∷◌, ◌++◌, length, take, drop, get_or, Option, Some, None, ℤ, pos, refl, sym, ap, ◌∙◌, arith, append-nil, append_assoc, drop-cons, add-one, take_all}
+use Rattle.std.proofs.Common.{◌≡◌, ◌≢◌, ℕ, zero, suc, ◌+◌, ◌-◌, ◌*◌, ◌^◌, ◌<◌, ◌≤◌, Bool, true, false, cond, not, ◌&&◌, ◌||◌, eqb, ltb, leb, List, [], ◌∷◌, ◌++◌, length, take, drop, get_or, Option, Some, None, ℤ, pos, ◌-ℤ◌, refl, sym, ap, ◌∙◌, arith, append-nil, append_assoc, drop-cons, add-one, take_all}
 use Rattle.std.proofs.lemmas.Grind.{common_steps}
 use Rattle.std.proofs.Math.Seq.{take-suc}
 use Rattle.std.proofs.lemmas.Bool.Decides.{nat_tests}
@@ -11,7 +11,7 @@ use Rattle.std.proofs.lemmas.Str.{digit_value_digit}
 use Rattle.std.proofs.lemmas.Int.Digits.{digits_value-lt, digits_value_push}
 use Rattle.spd_scaled.proofs.DecimalUnits.{ten_up}
 use Rattle.spd_scaled.specs.Decimal.{with_sign}
-use Rattle.spd_scaled.specs.DecimalReading.{sign_at, digits_at, fraction_at, exponent_at, exponent_step, without_zero, without_end_zeros, are_exponent_digits, read_value}
+use Rattle.spd_scaled.specs.DecimalReading.{sign_at, digits_at, fraction_at, exponent_at, exponent_step, without_zero, without_end_zeros, are_exponent_digits, read_value, value_step, lowest_of, number_step, decimal_of}
 
 -- ---- the bytes behind the first
 
@@ -207,3 +207,50 @@ without_end_zeros-append (x ∷ xs) ys = ap (without_zero x) (without_end_zeros-
     kept : (zs : List ℕ) → without_zero x (cond (eqb (length zs) 0) (without_end_zeros xs) (xs ++ zs)) ≡ cond (eqb (length zs) 0) (without_zero x (without_end_zeros xs)) (x ∷ (xs ++ zs))
     kept [] = refl
     kept (z ∷ zs) = let no : eqb (length (z ∷ zs)) 0 ≡ false = grind (arith, nat_tests) in rw (no) (some xs zs z)
+
+length-without_end_zeros : (xs : List ℕ) → length (without_end_zeros xs) ≤ length xs
+unfolding without_end_zeros
+length-without_end_zeros [] = omega arith
+length-without_end_zeros (x ∷ xs) = omega (arith, kept (without_end_zeros xs), length-without_end_zeros xs)
+  where
+    kept : (ys : List ℕ) → length (without_zero x ys) ≤ suc (length ys)
+    kept [] = by_case (eqb x 48)
+      where
+        by_case : (t : Bool) → length (cond t [] (x ∷ [])) ≤ 1
+        by_case true = omega arith
+        by_case false = omega arith
+    kept (y ∷ ys) = omega arith
+
+-- ---- the whole text
+
+-- the digits that stand first are digits
+pub AllDigits-digits_at : (text : List ℕ) → AllDigits 10 (digits_at text).0
+unfolding digits_at
+AllDigits-digits_at [] = tt
+AllDigits-digits_at (c ∷ cs) = by_first (is_ascii_digit c) refl (AllDigits-digits_at cs)
+  where
+    by_first : (b : Bool) → is_ascii_digit c ≡ b → AllDigits 10 (take (prefix_len is_ascii_digit cs) cs) → AllDigits 10 (take (cond b (1 + prefix_len is_ascii_digit cs) 0) (c ∷ cs))
+    by_first true e all = let n : 1 + prefix_len is_ascii_digit cs ≡ suc (prefix_len is_ascii_digit cs) = omega arith in rw n (digit_below c e, all)
+    by_first false e all = tt
+
+pub AllDigits-fraction_at : (text : List ℕ) → AllDigits 10 (fraction_at text).0
+unfolding fraction_at
+AllDigits-fraction_at [] = tt
+AllDigits-fraction_at (c ∷ cs) = by_first (eqb c 46)
+  where
+    by_first : (b : Bool) → AllDigits 10 (cond b (digits_at cs) ([], c ∷ cs)).0
+    by_first true = AllDigits-digits_at cs
+    by_first false = tt
+
+pub decimal_of-parts : (text u w aw f af : List ℕ) (negative : Bool) (e : Option ℤ) → negative ≡ (sign_at text).0 → u ≡ (sign_at text).1 → w ≡ (digits_at u).0 → aw ≡ (digits_at u).1
+    → f ≡ (fraction_at aw).0 → af ≡ (fraction_at aw).1 → e ≡ exponent_at af → number_step negative w f e ≡ decimal_of text
+unfolding decimal_of
+decimal_of-parts text u w aw f af negative e is_sign is_u is_w is_aw is_f is_af is_e = rw (is_e, is_af, is_f, is_aw, is_w, is_u, is_sign) refl
+
+pub lowest_of-parts : (negative : Bool) (digits kept : List ℕ) (places : ℤ) → kept ≡ without_end_zeros digits
+    → value_step negative (places -ℤ pos (length digits - length kept)) (read_value (digits_value 10 kept)) ≡ lowest_of negative digits places
+unfolding lowest_of
+lowest_of-parts negative digits kept places e = rw e refl
+
+pub length-kept : (digits kept : List ℕ) → kept ≡ without_end_zeros digits → length kept ≤ length digits
+length-kept digits kept e = rw e (length-without_end_zeros digits)

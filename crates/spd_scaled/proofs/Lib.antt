@@ -5,4 +5,5 @@ mod TowardZero
 pub mod UnitsLaws
 mod DecimalUnits
 mod DecimalParts
+mod DecimalValue
 mod Rows

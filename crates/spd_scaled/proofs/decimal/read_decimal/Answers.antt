@@ -1,3 +1,4 @@
+use Rattle.spd_scaled.proofs.DecimalValue.{lowest_of-told}
 use Rattle.spd_scaled.proofs.decimal.read_decimal.Goals as goal
 
 pub returns-clause-writes : goal.returns-clause-writes
