@@ -6,4 +6,5 @@ pub mod UnitsLaws
 mod DecimalUnits
 mod DecimalParts
 mod DecimalValue
+mod DecimalText
 mod Rows
