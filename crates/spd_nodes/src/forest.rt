@@ -6,8 +6,7 @@ ghost use Rattle.spd_nodes.specs.States.{test_tree};
 
 use crate::layout::{Layout, Level};
 use crate::leaf::Leaf;
-use crate::steps::Steps;
-use spd_cons_core::Entry;
+use spd_cons_core::{Entry, Steps};
 use std::sync::ledger::Ledger;
 
 /// The name of a test tree in a forest.

@@ -10,7 +10,6 @@ pub mod leaf;
 pub mod reach;
 pub mod refs;
 pub mod same;
-pub mod steps;
 
 pub use alone::Alone;
 pub use counting::Counting;
@@ -20,7 +19,7 @@ pub use leaf::Leaf;
 pub use reach::{count, reached};
 pub use refs::Refs;
 pub use same::{is_same_function, is_same_rest};
-pub use steps::Steps;
+pub use spd_cons_core::Steps;
 
 #[cfg(test)]
 mod tests;

@@ -8,7 +8,7 @@ use crate::layout::{Layout, Level};
 use crate::leaf::Leaf;
 use crate::reach::{count, reached};
 use crate::same::{is_same_function, is_same_rest};
-use crate::steps::Steps;
+use spd_cons_core::Steps;
 use std::alloc::Global;
 use std::marker::Brand;
 use std::sync::ledger::{Blank, Ledger};
