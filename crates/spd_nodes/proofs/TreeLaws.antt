@@ -5,7 +5,8 @@ use Rattle.std.specs.Ordering.{int_eq}
 use Rattle.std.proofs.lemmas.Bool.Decides.{Decides-int_eq, Decides-eqb, nat_tests}
 use Rattle.spd_nodes.specs.declared.leaf.Leaf.{Leaf}
 use Rattle.spd_nodes.specs.declared.leaf.Leaf.TheVariants.{Num, Pair, Act}
-use Rattle.spd_nodes.specs.Levels.{levels_of, passes, after, is_first, InRange, AllPositive, IsPast}
+use Rattle.spd_model.specs.States.{IsState}
+use Rattle.spd_nodes.specs.Levels.{levels_of, passes, after, is_first, AllPositive, IsPast}
 use Rattle.spd_nodes.specs.Trees.{Tree, Ends, Tests, leaf_eq, tree_eq, value_at, IsFrom, IsAt, IsReduced, join, chain, tree_of}
 
 pub both : (a b : Bool) → (a && b) ≡ true → (a ≡ true) × (b ≡ true)
@@ -219,24 +220,24 @@ chain-agree (suc n) j l u v h =
     ap (λ t. join l t (chain n (j + 1) (l + 1) u)) a ∙ ap (join l (v j)) b
 
 -- functions that agree in range have one tree
-pub tree_of-agree : (ds : List ℕ) (b : ℕ) (f g : List ℕ → Leaf) → AllPositive ds → ((p : List ℕ) → InRange ds p → f p ≡ g p) → tree_of ds b f ≡ tree_of ds b g
+pub tree_of-agree : (ds : List ℕ) (b : ℕ) (f g : List ℕ → Leaf) → AllPositive ds → ((p : List ℕ) → IsState ds p → f p ≡ g p) → tree_of ds b f ≡ tree_of ds b g
 tree_of-agree [] b f g o h = ap Ends (h [] tt)
 tree_of-agree (d ∷ ds) b f g o h =
     chain-agree (d - 1) 0 b _ _ (λ k u v. tree_of-agree ds (b + (d - 1)) (λ p. f (k ∷ p)) (λ p. g (k ∷ p)) o.1 (λ p i. h (k ∷ p) (omega arith, i)))
 
 -- two reduced trees of one first level with equal values in range from that level's value on are equal
 pub one_part : (ds : List ℕ) (b l : ℕ) (t u : Tree) → AllPositive ds → b ≤ l → IsReduced ds b t → IsReduced ds b u → IsAt l t → IsAt l u
-    → ((p : List ℕ) → InRange ds p → IsPast ds (l - b) p → value_at ds b t p ≡ value_at ds b u p) → t ≡ u
+    → ((p : List ℕ) → IsState ds p → IsPast ds (l - b) p → value_at ds b t p ≡ value_at ds b u p) → t ≡ u
 one_part [] b l (Ends a) u o q r s f g h = absurd f
 one_part [] b l (Tests k y n) u o q r s f g h = absurd (omega arith)
 one_part (d ∷ ds) b l t u o q r s f g h = go (nat_lt (l - b) (d - 1)) refl (one_part ds (b + (d - 1)) l t u o.1)
   where
     Same : Type 0
-    Same = (p : List ℕ) → InRange ds p → IsPast ds (l - (b + (d - 1))) p → value_at ds (b + (d - 1)) t p ≡ value_at ds (b + (d - 1)) u p
+    Same = (p : List ℕ) → IsState ds p → IsPast ds (l - (b + (d - 1))) p → value_at ds (b + (d - 1)) t p ≡ value_at ds (b + (d - 1)) u p
 
     go : (z : Bool) → nat_lt (l - b) (d - 1) ≡ z
         → (b + (d - 1) ≤ l → IsReduced ds (b + (d - 1)) t → IsReduced ds (b + (d - 1)) u → IsAt l t → IsAt l u
-        → ((p : List ℕ) → InRange ds p → IsPast ds (l - (b + (d - 1))) p → value_at ds (b + (d - 1)) t p ≡ value_at ds (b + (d - 1)) u p) → t ≡ u) → t ≡ u
+        → ((p : List ℕ) → IsState ds p → IsPast ds (l - (b + (d - 1))) p → value_at ds (b + (d - 1)) t p ≡ value_at ds (b + (d - 1)) u p) → t ≡ u) → t ≡ u
     go true z ih =
         let lo : l < b + (d - 1) = grind (arith, nat_tests) in
         let n : ((d - 1) - (l - b)) + (l - b) ≡ d - 1 = omega arith in

@@ -3,7 +3,8 @@ use Rattle.std.proofs.Common.{◌≡◌, ℕ, zero, suc, ◌+◌, ◌-◌, ◌�
 use Rattle.std.specs.Prelude.{nat_lt}
 use Rattle.std.proofs.lemmas.Bool.Decides.{Decides-eqb, nat_tests}
 use Rattle.spd_nodes.specs.declared.leaf.Leaf.{Leaf}
-use Rattle.spd_nodes.specs.Levels.{passes, InRange}
+use Rattle.spd_model.specs.States.{IsState}
+use Rattle.spd_nodes.specs.Levels.{passes}
 use Rattle.spd_nodes.specs.Trees.{Tree, Ends, Tests, tree_eq, value_at, join, chain, tree_of}
 use Rattle.spd_nodes.proofs.TreeLaws.{tree_eq-true}
 
@@ -71,7 +72,7 @@ value_at-chain d ds b (suc n) j l x p sub e f g h = value_at-join (d ∷ ds) b l
     go false z r = let i : j + 1 ≤ x = grind (arith, nat_tests) in rw (within, at, z) (r i)
 
 -- the tree of a function has its value at each point in range
-pub value_at-tree_of : (ds : List ℕ) (b : ℕ) (f : List ℕ → Leaf) (p : List ℕ) → InRange ds p → value_at ds b (tree_of ds b f) p ≡ f p
+pub value_at-tree_of : (ds : List ℕ) (b : ℕ) (f : List ℕ → Leaf) (p : List ℕ) → IsState ds p → value_at ds b (tree_of ds b f) p ≡ f p
 value_at-tree_of [] b f [] i = refl
 value_at-tree_of [] b f (x ∷ p) i = absurd i
 value_at-tree_of (d ∷ ds) b f [] i = absurd i

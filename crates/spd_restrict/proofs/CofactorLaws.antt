@@ -2,7 +2,8 @@
 use Rattle.std.proofs.Common.{◌≡◌, ℕ, ◌+◌, ◌-◌, ◌<◌, ◌≤◌, ◌≢◌, ◌⊎◌, inl, inr, ◌==◌, Bool, true, false, cond, List, set, refl, sym, ◌∙◌, subst, arith, true≢false}
 use Rattle.std.specs.Prelude.{nat_lt}
 use Rattle.std.proofs.lemmas.Bool.Decides.{Decides-eqb, nat_tests}
-use Rattle.spd_nodes.specs.Levels.{levels_of, passes, after, InRange}
+use Rattle.spd_model.specs.States.{IsState}
+use Rattle.spd_nodes.specs.Levels.{levels_of, passes, after}
 use Rattle.spd_nodes.specs.Trees.{Tree, Ends, Tests, value_at, IsFrom, IsAt, IsReduced, CanTest, join}
 use Rattle.spd_nodes.proofs.TreeLaws.{after_above}
 use Rattle.spd_nodes.proofs.ValueLaws.{value_at-join}
@@ -66,7 +67,7 @@ module _ (ds : List ℕ) (slot first end : ℕ) (s : IsSlot ds slot first end) w
     cof t = cofactored first end value t
 
     -- the tree at the slot's value has the tree's value at each point with that value
-    pub value_at-cofactored : (t : Tree) (p : List ℕ) → IsReduced ds 0 t → IsUpTo first end value t → InRange ds p → value_at ds 0 (cofactored first end value t) p ≡ value_at ds 0 t (set p slot value)
+    pub value_at-cofactored : (t : Tree) (p : List ℕ) → IsReduced ds 0 t → IsUpTo first end value t → IsState ds p → value_at ds 0 (cofactored first end value t) p ≡ value_at ds 0 t (set p slot value)
     value_at-cofactored (Ends a) p r u i = refl
     value_at-cofactored (Tests l y n) p r u i =
         go (nat_lt l first) (nat_lt l end) (l == first + value) refl refl refl

@@ -6,10 +6,11 @@ use Rattle.spd_cons_core.specs.declared.key.Entry.{Entry}
 use Rattle.spd_nodes.specs.declared.leaf.Leaf.{Leaf}
 use Rattle.spd_nodes.specs.Levels.{slots, slot_of, level_at}
 use Rattle.spd_nodes.specs.Trees.{Tree, Ends, Tests, value_at, IsFrom, IsReduced}
-use Rattle.spd_nodes.specs.States.{IsState, point, function_of, Agree}
+use Rattle.spd_model.specs.States.{IsState}
+use Rattle.spd_nodes.specs.States.{point, function_of, Agree}
 use Rattle.spd_nodes.specs.Shown.{Shown, IsSound, IsWhole, meaning}
 use Rattle.spd_nodes.proofs.RankLaws.{rank-view}
-use Rattle.spd_nodes.proofs.StateLaws.{InRange-point}
+use Rattle.spd_nodes.proofs.StateLaws.{IsState-point}
 use Rattle.spd_apply.specs.declared.rule.Below.TheVariants as B
 use Rattle.spd_apply.specs.Rules.{Making, MayMeet, PlansBelow, PlansTest}
 use Rattle.spd_restrict.specs.Restricted.{restricted, cofactored, IsSlot, IsUpTo, MayRestrict}
@@ -143,7 +144,7 @@ module _ (first end value var : ℕ) (primed : Bool) (s : Shown) (o : IsSound s)
   pub fixed-value : Agree s.sizes (function_of s.sizes (cofactored first end value (s.tree f))) (restricted var primed value (meaning s f))
   fixed-value = record {
     at = λ x y i j.
-        value_at-cofactored (slots s.sizes) (slot_of var primed) first end is value (s.tree f) (point x y) (o.reduced f kf) up-whole (InRange-point s.sizes x y i j)
+        value_at-cofactored (slots s.sizes) (slot_of var primed) first end is value (s.tree f) (point x y) (o.reduced f kf) up-whole (IsState-point s.sizes x y i j)
         ∙ split primed x y i j;
   }
     where

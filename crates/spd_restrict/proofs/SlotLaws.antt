@@ -2,7 +2,8 @@
 use Rattle.std.proofs.Common.{◌≡◌, ℕ, zero, suc, ◌+◌, ◌-◌, ◌<◌, ◌≤◌, ◌==◌, Bool, true, false, cond, List, [], ◌∷◌, set, refl, ◌∙◌, ap, arith}
 use Rattle.std.specs.Prelude.{nat_lt}
 use Rattle.std.proofs.lemmas.Bool.Decides.{Decides-eqb, nat_tests}
-use Rattle.spd_nodes.specs.Levels.{passes, after, is_first, InRange}
+use Rattle.spd_model.specs.States.{IsState}
+use Rattle.spd_nodes.specs.Levels.{passes, after, is_first}
 use Rattle.spd_restrict.specs.Restricted.{IsSlot}
 
 -- the slots after the first one
@@ -59,7 +60,7 @@ first-is (d ∷ ds) (suc slot) first end s h =
     rw (e, first-is ds slot (first - (d - 1)) (end - (d - 1)) (slot-tail d ds slot first end s) (omega (arith, s.first_is, s.end_is))) refl
 
 -- inside the slot, a point with the slot at a value passes the test of that value alone
-pub passes-in : (ds : List ℕ) (slot first end l value : ℕ) (p : List ℕ) → IsSlot ds slot first end → first ≤ l → l < end → InRange ds p → passes ds l (set p slot value) ≡ (value == l - first)
+pub passes-in : (ds : List ℕ) (slot first end l value : ℕ) (p : List ℕ) → IsSlot ds slot first end → first ≤ l → l < end → IsState ds p → passes ds l (set p slot value) ≡ (value == l - first)
 passes-in [] slot first end l value p s g h i = absurd (omega (arith, s.slot_in))
 passes-in (d ∷ ds) slot first end l value [] s g h i = absurd i
 passes-in (d ∷ ds) zero first end l value (x ∷ p) s g h i =
