@@ -6,7 +6,7 @@ use Rattle.spd_nodes.specs.declared.leaf.Leaf.{Leaf}
 use Rattle.spd_model.specs.States.{IsState}
 use Rattle.spd_nodes.specs.Levels.{passes}
 use Rattle.spd_nodes.specs.Trees.{Tree, Ends, Tests, tree_eq, value_at, join, chain, tree_of}
-use Rattle.spd_nodes.proofs.TreeLaws.{tree_eq-true}
+use Rattle.spd_nodes.proofs.TreeLaws.{tree_eq-true, passes-skip}
 
 -- no level is below `e`, anywhere
 abbrev AllAbove : ℕ → Tree → Type 0
@@ -34,15 +34,9 @@ AllAbove-tree_of (d ∷ ds) b f =
     AllAbove-chain b (d - 1) 0 b (λ j. tree_of ds (b + (d - 1)) (λ p. f (j ∷ p))) (omega arith)
     (λ k. AllAbove-lower b (b + (d - 1)) _ (omega arith) (AllAbove-tree_of ds (b + (d - 1)) (λ p. f (k ∷ p))))
 
-passes-past : (d : ℕ) (ds : List ℕ) (b l x : ℕ) (p : List ℕ) → b + (d - 1) ≤ l → passes (d ∷ ds) (l - b) (x ∷ p) ≡ passes ds (l - (b + (d - 1))) p
-passes-past d ds b l x p h =
-    let e : nat_lt (l - b) (d - 1) ≡ false = grind (arith, nat_tests) in
-    let i : (l - b) - (d - 1) ≡ l - (b + (d - 1)) = omega arith in
-    rw (e, i) refl
-
 value_at-past : (d : ℕ) (ds : List ℕ) (b x : ℕ) (p : List ℕ) (t : Tree) → AllAbove (b + (d - 1)) t → value_at (d ∷ ds) b t (x ∷ p) ≡ value_at ds (b + (d - 1)) t p
 value_at-past d ds b x p (Ends a) h = refl
-value_at-past d ds b x p (Tests l y n) h = rw (passes-past d ds b l x p h.0, value_at-past d ds b x p y h.1, value_at-past d ds b x p n h.2) refl
+value_at-past d ds b x p (Tests l y n) h = rw (passes-skip d ds b l x p h.0, value_at-past d ds b x p y h.1, value_at-past d ds b x p n h.2) refl
 
 pub value_at-join : (ds : List ℕ) (b l : ℕ) (y n : Tree) (p : List ℕ) → value_at ds b (join l y n) p ≡ cond (passes ds (l - b) p) (value_at ds b y p) (value_at ds b n p)
 value_at-join ds b l y n p = go (tree_eq y n) refl

@@ -85,10 +85,10 @@ abbrev pub IsNodeOf : Tree → List Tree → Type 0
 IsNodeOf x [] = ⊥
 IsNodeOf x (t ∷ ts) = IsNode x t ⊎ IsNodeOf x ts
 
--- all nodes of a tree, each as often as it stands there
-abbrev pub nodes_of : Tree → List Tree
-nodes_of (Ends a) = Ends a ∷ []
-nodes_of (Tests l y n) = Tests l y n ∷ (nodes_of y ++ nodes_of n)
+-- all subtrees of a tree, each as often as it stands there
+abbrev pub subtrees_of : Tree → List Tree
+subtrees_of (Ends a) = Ends a ∷ []
+subtrees_of (Tests l y n) = Tests l y n ∷ (subtrees_of y ++ subtrees_of n)
 
 -- how many levels a tree has at most, from its root's level on
 abbrev pub tree_rank : List ℕ → Tree → ℕ
