@@ -55,3 +55,9 @@ pub record IsTestOf (sizes : List ℕ) (level var : ℕ) (primed : Bool) (value 
   pub var_in : var < length sizes
   pub value_in : value + 1 < slice_index sizes var
   pub level_is : level_at sizes var primed value ≡ level
+
+-- a slot's tests are the levels from `first` to below `end`
+pub record IsSlot (ds : List ℕ) (slot first end : ℕ) : Type 0 where
+  pub slot_in : slot < length ds
+  pub first_is : first ≡ levels_of (take slot ds)
+  pub end_is : end ≡ first + (slice_index ds slot - 1)

@@ -47,6 +47,10 @@ abbrev pub IsAt : ℕ → Tree → Type 0
 IsAt k (Ends a) = ⊥
 IsAt k (Tests l y n) = l ≡ k
 
+-- its root tests this level, or it is past the level's slot
+abbrev pub IsAtOrPast : List ℕ → ℕ → Tree → Type 0
+IsAtOrPast ds l t = IsFrom ds 0 (after ds l) t ⊎ IsAt l t
+
 -- A tree is reduced where at each test the children differ, the one where it holds is whole and past the slot, and the
 -- other one is that too, or is the slot's next test.
 abbrev pub IsReduced : List ℕ → ℕ → Tree → Type 0

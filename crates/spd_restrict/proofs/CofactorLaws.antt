@@ -15,19 +15,6 @@ use Rattle.spd_restrict.proofs.SlotLaws.{after-in, after-before, first-in, passe
 no-eq : (a b : ℕ) → a ≢ b → (a == b) ≡ false
 no-eq a b h = grind (arith, nat_tests)
 
--- the parts of a reduced test, with levels counted from 0
-pub record Parts (ds : List ℕ) (l : ℕ) (y n : Tree) : Type 0 where
-  pub level : l < levels_of ds
-  pub yes_from : IsFrom ds 0 (after ds l) y
-  pub no_fits : IsFrom ds 0 (after ds l) n ⊎ (IsAt (l + 1) n × (l + 1 < after ds l))
-  pub yes_reduced : IsReduced ds 0 y
-  pub no_reduced : IsReduced ds 0 n
-
-pub parts : (ds : List ℕ) (l : ℕ) (y n : Tree) → IsReduced ds 0 (Tests l y n) → Parts ds l y n
-parts ds l y n r =
-    let a : 0 + after ds (l - 0) ≡ after ds l = after0 ds l in
-    record { level = level_of-reduced ds l y n r; yes_from = rw a at r.3; no_fits = rw a at r.4; yes_reduced = r.5; no_reduced = r.6 }
-
 -- the root isn't below a level
 abbrev pub RootFrom : ℕ → Tree → Type 0
 RootFrom e (Ends a) = Unit {0}
