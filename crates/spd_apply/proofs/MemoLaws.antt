@@ -3,7 +3,7 @@ use Rattle.std.proofs.Common.{◌≡◌, inl, inr, Some, sym, subst}
 use Rattle.std.specs.Prelude.{Contains}
 use Rattle.spd_cons_core.specs.declared.key.Entry.{Entry}
 use Rattle.spd_nodes.specs.Shown.{Shown, Grows}
-use Rattle.spd_memo.specs.KeptAnswers.{KeptAnswers, answer_in, promoted_in, put_in}
+use Rattle.spd_memo.specs.Kept.{KeptAnswers, answer_in, promoted_in, put_in}
 use Rattle.spd_memo.proofs.KeptLaws.{Contains-answer, Contains-promoted_in, Contains-put}
 use Rattle.spd_apply.specs.Rules.{Making, IsAnswer, HoldsAnswers}
 

@@ -6,7 +6,7 @@ use Rattle.spd_nodes.specs.Levels.{slots, levels_of}
 use Rattle.spd_nodes.specs.Trees.{Tree, join, CanTest}
 use Rattle.spd_nodes.specs.Shown.{Shown, IsSound, Grows, MakesOnly, KnowsAs, Faults}
 use Rattle.spd_nodes.proofs.ShownLaws.{Within, within-one, grows-none, grows-then, makes-none, makes-within, makes-then, faults-within}
-use Rattle.spd_memo.specs.KeptAnswers.{KeptAnswers}
+use Rattle.spd_memo.specs.Kept.{KeptAnswers}
 use Rattle.spd_apply.specs.Halves.{pair_rank}
 use Rattle.spd_apply.specs.Rules.{Making, below_tree, below_rank, IsBelow, PlansTest, HoldsAnswers, Did}
 use Rattle.spd_apply.specs.declared.rule.Below.{Below}

@@ -10,7 +10,7 @@ use Rattle.spd_nodes.specs.States.{Function, point, plain_part, primed_part, tes
 use Rattle.spd_nodes.specs.Shown.{Shown, IsSound, MakesOnly, MakesNodesOf, FaultsAt, Faults, KnowsAs, IsWhole, StandsFor, meaning}
 use Rattle.spd_nodes.proofs.TreeLaws.{tree_of-value_at, tree_of-agree}
 use Rattle.spd_nodes.proofs.StateLaws.{positive-slots, test_tree-value, IsPointOf, point-parts}
-use Rattle.spd_memo.specs.KeptAnswers.{KeptAnswers}
+use Rattle.spd_memo.specs.Kept.{KeptAnswers}
 use Rattle.spd_apply.specs.Applied.{applied, fit_mark, AllFit, MayApply}
 use Rattle.spd_apply.specs.Outcome.{at_each, FitEverywhere}
 use Rattle.spd_apply.specs.Rules.{HoldsAnswers, IsReady}

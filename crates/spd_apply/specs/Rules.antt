@@ -1,7 +1,7 @@
 -- How an operation on diagrams goes down: what it makes of two trees, said of the trees below theirs.
 use Rattle.std.specs.Prelude.{◌≡◌, ℕ, ◌+◌, ◌<◌, ◌≤◌, [], ◌∷◌, true, Contains}
 use Rattle.spd_cons_core.specs.declared.key.Entry.{Entry}
-use Rattle.spd_memo.specs.KeptAnswers.{KeptAnswers}
+use Rattle.spd_memo.specs.Kept.{KeptAnswers}
 use Rattle.spd_nodes.specs.Levels.{levels_of, slots}
 use Rattle.spd_nodes.specs.Trees.{Tree, join, CanTest}
 use Rattle.spd_nodes.specs.Shown.{Shown, IsSound, Grows, MakesOnly}

@@ -1,12 +1,12 @@
 -- A memo keeps what it kept before, and what was put.
-use Rattle.std.proofs.Common.{◌≡◌, ◌⊎◌, inl, inr, ◌==◌, ◌&&◌, Bool, true, false, List, Some, refl, sym, subst}
+use Rattle.std.proofs.Common.{◌≡◌, ◌⊎◌, inl, inr, ◌==◌, true, List, Some, sym, subst}
 use Rattle.std.specs.Prelude.{Contains}
 use Rattle.std.proofs.lemmas.Bool.{and_parts}
 use Rattle.std.proofs.lemmas.Bool.Decides.{Decides-eqb}
 use Rattle.spd_cons_core.specs.declared.key.Entry.{Entry}
 use Rattle.lru.specs.LruCache.{lru_cache}
 use Rattle.lru.proofs.CallerLemmas.{Contains-lookup, Contains-promoted, Contains-put_entries, IsPut}
-use Rattle.spd_memo.specs.KeptAnswers.{KeptAnswers, is_same_pair, answer_in, promoted_in, pairs_put}
+use Rattle.spd_memo.specs.Kept.{KeptAnswers, is_same_pair, answer_in, promoted_in, pairs_put}
 
 is_same_pair-true : (f g : Entry) (q : Entry × Entry) → is_same_pair f g q ≡ true → q ≡ (f, g)
 is_same_pair-true f g q e =

@@ -2,7 +2,7 @@
 #![tactic(auto)]
 
 ghost use Rattle.std.specs.Prelude.{◌≡◌, ℕ, ◌<◌, [], IfOk, OnOk, OnErr};
-ghost use Rattle.spd_memo.specs.KeptAnswers.{KeptAnswers, answer_in, promoted_in, put_in};
+ghost use Rattle.spd_memo.specs.Kept.{KeptAnswers, answer_in, promoted_in, put_in};
 
 use lru::LruCache;
 use spd_cons_core::Entry;
@@ -18,7 +18,7 @@ pub struct Memo {
 }
 
 impl Model for Memo {
-    ghost use Rattle.spd_memo.specs.KeptAnswers.{KeptAnswers};
+    ghost use Rattle.spd_memo.specs.Kept.{KeptAnswers};
 
     ghost Value = { KeptAnswers };
 

@@ -5,7 +5,7 @@ use Rattle.spd_nodes.specs.declared.forest.StoreFault.{StoreFault}
 use Rattle.spd_nodes.specs.Levels.{slots}
 use Rattle.spd_nodes.specs.Trees.{Tree, IsFrom, IsReduced, join}
 use Rattle.spd_nodes.specs.States.{Function, test_tree, test_trees, function_of, Agree}
-use Rattle.spd_nodes.specs.Shown.{Shown, IsSound, Grows, KnowsAs, StandsFor, Faults, FaultsAt, MakesOnly, MakesNodesOf, MakesTree, MakesAmong, MakesDiagram}
+use Rattle.spd_nodes.specs.Shown.{Shown, IsSound, KnowsAs, StandsFor, Faults, FaultsAt, MakesOnly, MakesTree, MakesAmong, MakesDiagram}
 use Rattle.spd_nodes.proofs.StateLaws.{positive-slots, test_tree-value, test_tree-agree}
 use Rattle.spd_nodes.proofs.ShownLaws.{Within, within-one, grows-then, makes-within, makes-then, faults-within}
 use Rattle.spd_nodes.proofs.TestLaws.{in-yes, in-no}

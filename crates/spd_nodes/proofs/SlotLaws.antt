@@ -3,7 +3,7 @@ use Rattle.std.proofs.Common.{◌≡◌, ℕ, zero, suc, ◌+◌, ◌-◌, ◌*�
 use Rattle.std.specs.Prelude.{nat_lt}
 use Rattle.std.proofs.lemmas.Bool.Decides.{Decides-eqb, nat_tests}
 use Rattle.spd_model.specs.States.{IsState}
-use Rattle.spd_nodes.specs.Levels.{levels_of, passes, after, is_first, slots, slot_of, level_at, IsSlot, IsTestOf}
+use Rattle.spd_nodes.specs.Levels.{passes, after, is_first, slots, slot_of, level_at, IsSlot, IsTestOf}
 use Rattle.spd_nodes.specs.Trees.{Tree, Tests, IsFrom}
 
 -- the slots after the first one

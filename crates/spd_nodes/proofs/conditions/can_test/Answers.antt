@@ -1,4 +1,4 @@
-use Rattle.std.proofs.Common.{rules, ◌<◌, ◌+◌}
+use Rattle.std.proofs.Common.{rules, ◌<◌}
 use Rattle.spd_nodes.specs.Levels.{slots, after}
 use Rattle.spd_nodes.proofs.TreeLaws.{after_above}
 use Rattle.spd_nodes.proofs.conditions.can_test.Goals as goal
