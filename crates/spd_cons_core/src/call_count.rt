@@ -1,3 +1,5 @@
+//! How many find-or-make calls were taken.
+
 ghost use Rattle.std.specs.Prelude.{◌≡◌, ℕ, ◌+◌, ◌<◌};
 
 use std::marker::Model;
