@@ -1,5 +1,5 @@
 -- Pairs of a variable and a value, one more after another, and the state that they describe.
-use Rattle.std.proofs.Common.{◌≡◌, ◌≢◌, ◌⊎◌, inl, inr, ℕ, zero, suc, ◌+◌, ◌<◌, ◌≤◌, List, [], ◌∷◌, ◌++◌, length, map, take, get_or, slice_index, slice_index_or, slice_set, replicate, All, Contains, Option, Some, None, refl, ap, sym, ◌∙◌, subst, arith, length-set, length-take}
+use Rattle.std.proofs.Common.{◌≡◌, ◌≢◌, inl, inr, ℕ, zero, suc, ◌+◌, ◌<◌, ◌≤◌, List, [], ◌∷◌, ◌++◌, length, map, take, get_or, slice_index, slice_index_or, slice_set, replicate, All, Contains, Option, Some, None, refl, ap, sym, ◌∙◌, subst, arith, length-set, length-take}
 use Rattle.std.specs.Prelude.{slice_get, AllPairs}
 use Rattle.std.proofs.lemmas.List.{get_or-map, get_or-take, get_or-set_same, get_or-set_other, take_more, map_push}
 use Rattle.std.proofs.lemmas.Grind.{take-set_at}
@@ -11,8 +11,8 @@ use Rattle.std.proofs.lemmas.Bool.{cases_eq}
 use Rattle.spd_model.specs.Process.{Process}
 use Rattle.spd_model.specs.States.{sizes, IsState}
 use Rattle.spd_model.specs.declared.states.StateFault.TheVariants.{Missing}
-use Rattle.spd_model.specs.StatePairs.{IsKnown, AreFine, vars_of, Describe, HasFault}
-use Rattle.spd_model.specs.Chosen.{AreChosen}
+use Rattle.spd_model.specs.StatePairs.{IsKnown, vars_of, Describe, HasFault}
+use Rattle.spd_model.specs.Inner.Chosen.{AreChosen}
 use Rattle.spd_model.proofs.CallerLemmas.Lists.{Contains-map}
 use Rattle.spd_model.proofs.CallerLemmas.StateOrder.{length-sizes}
 

@@ -2,9 +2,9 @@
 
 ghost use Rattle.std.specs.Prelude.{◌≡◌, ◌≢◌, ◌+◌, ◌<◌, ◌≤◌, ◌++◌, ◌∷◌, length, map, take, drop, replicate, slice_get, slice_index, All, true, Some, None, IfSome, IfOk, IfErr, Decides};
 ghost use Rattle.spd_model.specs.States.{sizes, states, rank, state_count as state_count_of, IsState};
-ghost use Rattle.spd_model.specs.Order.{IsRaisable};
+ghost use Rattle.spd_model.specs.Inner.Order.{IsRaisable};
 ghost use Rattle.spd_model.specs.StatePairs.{IsKnown, Describe, HasFault};
-ghost use Rattle.spd_model.specs.Chosen.{AreChosen};
+ghost use Rattle.spd_model.specs.Inner.Chosen.{AreChosen};
 
 use crate::{Model, State};
 
