@@ -7,4 +7,6 @@ mod DecimalUnits
 mod DecimalParts
 mod DecimalValue
 mod DecimalText
+mod ReadBack
+mod DecimalRows
 mod Rows
