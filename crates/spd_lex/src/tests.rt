@@ -35,7 +35,7 @@ fn files_are_cut_into_tokens(rt: HostRuntime) -> Result<(), Fail> {
         ),
         (
             b"x\r\n//a\r(\r\ny",
-            &[token(Word, 0, 1), token(Word, 11, 12)],
+            &[token(Word, 0, 1), token(Word, 10, 11)],
         ),
     ];
     for (bytes, want) in rows {
