@@ -16,3 +16,6 @@ pub use cons::{Cons, Full};
 pub use seat::Seat;
 pub use view::Size;
 
+
+#[cfg(test)]
+mod tests;
