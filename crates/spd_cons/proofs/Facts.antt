@@ -1,5 +1,5 @@
 -- What holds of a seat whose view is one of a machine that meets the invariant.
-use Rattle.std.proofs.Common.{◌≡◌, ℕ, ◌+◌, ◌*◌, ◌^◌, ◌<◌, ◌≤◌, true, length, sym, ap, ◌∙◌, subst, refl, List, [], ◌∷◌, ◌++◌, set, arith, length-set, None, Some, Option, is_none, ◌&&◌, ◌||◌, length-append}
+use Rattle.std.proofs.Common.{◌≡◌, ℕ, ◌+◌, ◌<◌, ◌≤◌, true, length, sym, ap, ◌∙◌, subst, refl, [], ◌∷◌, set, arith, length-set, None, Some, Option, is_none, ◌&&◌, ◌||◌, length-append}
 use Rattle.std.specs.List.{Contains}
 use Rattle.spd_cons_core.specs.declared.mind.Known.{Known}
 use Rattle.spd_cons_core.specs.Views.{Seat}
@@ -16,11 +16,11 @@ use Rattle.spd_cons_core.specs.Views.{Machine}
 use Rattle.spd_cons_core.specs.Events.{can_split, after_split, split_off, split}
 use Rattle.spd_cons_core.specs.Seats.{spent, seat_at, parts_known, is_known, learned}
 use Rattle.spd_cons_core.specs.Invariants.{shares, times_listed, filled}
-use Rattle.spd_cons_core.proofs.CallerLemmas.{joined_known, joined_cases, joined_contains, known_from, split_keeps, split_taken, live_within, known_keys, known_entries, full_table, shares_below, filled_above_limit, listed_at_most_once, total_alone}
+use Rattle.spd_cons_core.proofs.CallerLemmas.{joined_known, joined_cases, joined_contains, known_from, split_keeps, split_taken, live_within, known_keys, known_entries, full_table, filled_above_limit, listed_at_most_once, total_alone}
 use Rattle.spd_cons.specs.declared.view.Size.{Size}
 use Rattle.spd_cons.specs.declared.view.View.{View}
 use Rattle.spd_cons.specs.declared.seat.Seat.TheInside.{Inside}
-use Rattle.spd_cons.specs.Values.{SeatValue, TableValue, IsSeated, IsSeatOf, Joins}
+use Rattle.spd_cons.specs.Values.{TableValue, IsSeated, IsSeatOf, Joins}
 use Rattle.spd_cons.specs.Shown.{shown, IsAtRest, IsActive, view_of}
 use Rattle.spd_cons.specs.Told.{Sees, Learns, split_view, new_view, joined_view}
 
@@ -112,17 +112,6 @@ join_result t o n v u w table learns =
 either_is_or : (a b : Option Entry) → either_spare a b ≡ option_or a b
 either_is_or (Some x) b = refl
 either_is_or None b = refl
-
--- the numbers of a joined seat are those of a seat of the table
-pub joined_small : (v u w : View) → Learns (joined_view v u) w → (v.mind.stands + u.mind.stands) + (v.mind.splits + u.mind.splits) < 2 ^ 32
-joined_small v u w learns =
-    let m = learns.is in
-    let low = shares_below m.machine m.sound m.seat (ap (λ (z : Seat). z.live) m.there ∙ m.live) in
-    let most = m.sized.most_high in
-    let stands : w.mind.stands ≡ v.mind.stands + u.mind.stands = ap (λ (z : View). z.mind.stands) learns.now in
-    let splits : w.mind.splits ≡ v.mind.splits + u.mind.splits = ap (λ (z : View). z.mind.splits) learns.now in
-    let same : shares (seat_at m.machine m.seat) ≡ shares w.mind = ap shares m.there in
-    omega arith
 
 pub join_rest : (h theirs new : ActiveSeat) → IsActive h → IsActive theirs → (view_of h).mind.call ≡ None → Learns (joined_view (view_of h) (view_of theirs)) (view_of new) → new.token.me.1 ≡ h.token.me.1
     → new.spare ≡ option_or h.spare theirs.spare → new.ended ≡ (h.ended || theirs.ended) → new.published ≡ h.published + theirs.published → new.stands ≡ h.stands + theirs.stands → new.splits ≡ h.splits + theirs.splits

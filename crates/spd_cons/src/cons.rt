@@ -1,5 +1,5 @@
 //! The calls of the table.
-ghost use Rattle.std.specs.Prelude.{◌≡◌, ℕ, ◌+◌, ◌<◌, ◌≤◌, ◌==◌, IsTrue, IfOk, IfErr, length};
+ghost use Rattle.std.specs.Prelude.{◌≡◌, ◌+◌, ◌<◌, ◌≤◌, ◌==◌, IsTrue, IfOk, IfErr, length};
 ghost use Rattle.std.specs.List.{Contains};
 ghost use Rattle.spd_cons_core.specs.Seats.{is_known, parts_known};
 ghost use Rattle.spd_cons_core.specs.Events.{after_split, split_off};
@@ -103,10 +103,7 @@ impl Cons {
             at: start_bucket(&key, self.words.bits),
             stored: false,
         };
-        match self
-            .words
-            .search_on::<Brand>(&mut seat.active, &mut search)
-        {
+        match self.words.search_on::<Brand>(&mut seat.active, &mut search) {
             Some(e) => Ok(e),
             None => Err(Full),
         }
@@ -131,11 +128,13 @@ impl Cons {
         ensures made { result ≡ record { table = seat.old.table; mind = split_off seat.old.mind } }
     {
         let token = self.words.split_token(&mut seat.active.token);
+        // A new seat has published nothing, whatever the other one has.
+        let published = 0;
         let active = ActiveSeat {
             token,
             spare: None,
             ended: false,
-            published: 0,
+            published,
             stands: 1,
             splits: 0,
         };
@@ -153,8 +152,7 @@ impl Cons {
         ensures after { IsSeatOf seat.new }
     {
         let Seat { active: theirs } = other;
-        self.words
-            .join_token(&mut seat.active.token, theirs.token);
+        self.words.join_token(&mut seat.active.token, theirs.token);
         self.words.look(&mut seat.active.token);
         seat.active.spare = seat.active.spare.or(theirs.spare);
         seat.active.ended = seat.active.ended | theirs.ended;

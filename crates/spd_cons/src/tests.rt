@@ -39,7 +39,10 @@ fn a_key_has_one_entry(rt: HostRuntime) -> Result<(), Fail> {
 
 /// How many of twenty keys come in a table for 16 nodes and two seats, whether the last one was refused, whether an
 /// earlier one is found then, and how many the seat has published.
-fn made_until_full<L: Ledger>(alloc: Global, blank: Blank) -> Result<(usize, bool, bool, usize), Fail>
+fn made_until_full<L: Ledger>(
+    alloc: Global,
+    blank: Blank,
+) -> Result<(usize, bool, bool, usize), Fail>
     requires name { blank.name ≡ L.name }
     requires parts { blank.parts ≡ L.parts }
     requires one { 0 < blank.parts }
@@ -54,7 +57,9 @@ fn made_until_full<L: Ledger>(alloc: Global, blank: Blank) -> Result<(usize, boo
         }
     }
     let refused = cons.find_or_make(&mut seat, Key::Num(18), &mut steps) == Err(Full);
-    let found = cons.find_or_make(&mut seat, Key::Num(3), &mut steps).is_ok();
+    let found = cons
+        .find_or_make(&mut seat, Key::Num(3), &mut steps)
+        .is_ok();
     Ok((came, refused && seat.has_ended(), found, seat.published()))
 }
 
@@ -86,7 +91,12 @@ fn four_read_back<L: Ledger>(alloc: Global, blank: Blank) -> Result<[Option<Key>
     let mut steps = Steps::<L>::new(blank);
     let (cons, mut seat) = Cons::new(alloc, 16, 1)?;
     let number = read_back(&cons, &mut seat, Key::Num(-7), &mut steps);
-    let pair = read_back(&cons, &mut seat, Key::Pair(i128::MIN, i128::MAX), &mut steps);
+    let pair = read_back(
+        &cons,
+        &mut seat,
+        Key::Pair(i128::MIN, i128::MAX),
+        &mut steps,
+    );
     let act = read_back(&cons, &mut seat, Key::Act(u32::MAX), &mut steps);
     let leaf = cons.find_or_make(&mut seat, Key::Num(-7), &mut steps);
     let test = match leaf {

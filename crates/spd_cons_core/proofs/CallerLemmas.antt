@@ -9,7 +9,7 @@ pub use Rattle.spd_cons_core.proofs.Claims.{claim_keeps}
 pub use Rattle.spd_cons_core.proofs.StoresContent.{store_content_keeps}
 pub use Rattle.spd_cons_core.proofs.Exchanges.{exchange_bucket_keeps}
 pub use Rattle.spd_cons_core.proofs.LoadsContent.{load_content_keeps}
-pub use Rattle.spd_cons_core.proofs.Splits.{split_keeps}
+pub use Rattle.spd_cons_core.proofs.Splits.{split_keeps, nothing_contained}
 pub use Rattle.spd_cons_core.proofs.Joins.{join_keeps}
 pub use Rattle.spd_cons_core.proofs.Runs.{new_sized, new_sound}
 pub use Rattle.spd_cons_core.proofs.Transitions.{goes_on}

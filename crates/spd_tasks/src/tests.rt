@@ -1,4 +1,4 @@
-ghost use Rattle.std.specs.Prelude.{◌≡◌, ℕ, ◌+◌, ◌<◌};
+ghost use Rattle.std.specs.Prelude.{◌≡◌, ◌+◌, ◌<◌};
 
 use crate::{Gate, Job, Open, run_jobs};
 use std::sync::atomic::{AtomicBool, AtomicU64, Ordering};

@@ -1,4 +1,4 @@
-use Rattle.std.proofs.Common.{◌≡◌, ◌∙◌, sym, ap, subst, refl, [], ◌||◌, ◌+◌}
+use Rattle.std.proofs.Common.{◌≡◌, ◌∙◌, ap, subst, refl, ◌||◌, ◌+◌}
 use Rattle.spd_cons.specs.declared.view.View.{View}
 use Rattle.spd_cons.specs.declared.seat.ActiveSeat.{ActiveSeat}
 use Rattle.spd_cons.specs.Told.{Mine, Learns, joined_view}

@@ -1,4 +1,4 @@
-use Rattle.std.proofs.Common.{◌≡◌, ◌∙◌, sym, ap, subst, refl, [], length, true, ◌<◌, ◌-◌}
+use Rattle.std.proofs.Common.{◌≡◌, ◌∙◌, sym, ap, subst, length, true, ◌<◌, ◌-◌}
 use Rattle.spd_cons_core.specs.Events.{can_split}
 use Rattle.spd_cons.specs.Values.{SeatValue}
 use Rattle.spd_cons.specs.declared.view.View.{View}
