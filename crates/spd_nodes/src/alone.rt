@@ -1,3 +1,5 @@
+//! The forest for one thread.
+
 ghost use Rattle.std.specs.Prelude.{◌≡◌, ℕ, ◌+◌, ◌<◌, ◌≤◌, ◌≢◌, ◌↔◌, [], ◌∷◌, IfOk, IfErr, OnErr, true, length};
 ghost use Rattle.spd_nodes.specs.Keys.{IsAbsent};
 ghost use Rattle.spd_nodes.specs.Levels.{levels_of, slots};

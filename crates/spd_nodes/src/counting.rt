@@ -1,3 +1,5 @@
+//! A forest that counts the calls of another one.
+
 ghost use Rattle.std.specs.Prelude.{◌≡◌, ℕ, ◌+◌, ◌%◌, ◌^◌, ◌<◌, [], ◌∷◌, IfOk, IfErr, true};
 ghost use Rattle.spd_nodes.specs.Levels.{levels_of, slots};
 ghost use Rattle.spd_nodes.specs.Trees.{Ends, join, CanTest};

@@ -2,6 +2,7 @@
 #![tactic(auto)]
 
 pub mod alone;
+pub mod conditions;
 pub mod counting;
 pub mod forest;
 mod keys;
@@ -12,6 +13,7 @@ pub mod refs;
 pub mod same;
 
 pub use alone::Alone;
+pub use conditions::{can_test, is_whole};
 pub use counting::Counting;
 pub use forest::{Forest, Ref, StoreFault, View};
 pub use layout::{Layout, Level};
