@@ -1,6 +1,5 @@
 pub mod Counts
+pub mod Direction
 pub mod Memory
-pub mod MemoryPlace
 pub mod Names
-pub mod Real
 pub mod Told

@@ -4,16 +4,9 @@
 #![tactic(auto)]
 
 mod in_memory;
-mod mem_place;
-mod names;
 mod outside;
-mod real;
-#[cfg(test)]
-mod tests;
 mod whole;
 
 pub use in_memory::{MemIn, MemOut};
-pub use mem_place::MemPlace;
-pub use outside::{Failed, Memory, Open, Opened, Place, ReadAll, Sink, Source};
-pub use real::{FileIn, ReaderIn, RealPlace, StdErr, StdIn, StdOut, Stream, WriterOut};
+pub use outside::{Failed, Memory, Open, Opened, Place, ReadAll, Sink, Source, Stage};
 pub use whole::{read_all, write_all_of};
