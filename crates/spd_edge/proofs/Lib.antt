@@ -1,4 +1,4 @@
 pub mod ToldLemmas
-
-
+pub mod NamesLemmas
+pub mod DirectionLemmas
 mod Rows

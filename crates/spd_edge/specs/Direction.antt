@@ -5,7 +5,7 @@ use Rattle.spd_edge.specs.declared.outside.Stage.TheVariants as Stage
 use Rattle.spd_edge.specs.declared.outside.Open.{Open}
 use Rattle.spd_edge.specs.declared.outside.Open.TheVariants as Open
 use Rattle.spd_edge.specs.Counts.{counted, Rose}
-use Rattle.spd_edge.specs.Names.{SameButFor}
+use Rattle.spd_edge.specs.Names.{SameButFor, updated}
 
 -- how far the place came with each name, where `None` is a name that it wasn't asked to open; each
 -- name's count of faults; and the bytes that it holds under each name, where it tells them
@@ -13,6 +13,14 @@ pub record Direction : Type 0 where
   pub stage : List ℕ → Option Stage
   pub faults : List ℕ → ℕ
   pub holds : List ℕ → Option (List ℕ)
+
+-- a direction in which no name was asked for
+abbrev pub untouched : Direction
+untouched = record { stage = λ _. None; faults = λ _. 0; holds = λ _. None }
+
+-- a name came to this stage
+abbrev pub staged : Direction → List ℕ → Stage → Direction
+staged direction name stage = record direction { stage = updated direction.stage name (Some stage) }
 
 -- an open of a name answered Ok
 pub record Opens (before now : Direction) (name : List ℕ) : Type 0 where

@@ -4,9 +4,14 @@
 #![tactic(auto)]
 
 mod in_memory;
+mod openings;
 mod outside;
+mod real;
+mod streams;
 mod whole;
 
 pub use in_memory::{MemIn, MemOut};
 pub use outside::{Failed, Memory, Open, Opened, Place, ReadAll, Sink, Source, Stage};
+pub use real::{Printed, RealPlace, Stream};
+pub use streams::{FileIn, FileOut, ReaderIn, StdErr, StdIn, StdOut, WriterOut};
 pub use whole::{read_all, write_all_of};
