@@ -1,5 +1,5 @@
 -- Values by name, and look-ups by name in a list.
-use Rattle.std.proofs.Common.{◌≡◌, ◌≢◌, ℕ, ◌+◌, ◌<◌, List, [], ◌∷◌, ◌++◌, length, Bool, true, false, cond, Option, None, Some, refl, sym, ap, ◌∙◌, arith}
+use Rattle.std.proofs.Common.{◌≡◌, ◌≢◌, ℕ, ◌+◌, ◌<◌, List, [], ◌∷◌, ◌++◌, length, Bool, true, false, cond, ◌||◌, Option, None, Some, refl, sym, ap, ◌∙◌, arith}
 use Rattle.std.specs.Prelude.{find, position, option_map, slice_set, slice_index_or, slice_get}
 use Rattle.std.specs.Option.{option_map_or, option_or}
 use Rattle.std.specs.List.{position_or_len}
@@ -7,8 +7,9 @@ use Rattle.std.specs.Str.{bytes_eq}
 use Rattle.std.proofs.lemmas.Grind.{common_steps}
 use Rattle.std.proofs.lemmas.Slice.Eq.{bytes_eq-Decides}
 use Rattle.std.proofs.lemmas.Option.{slice_get-get_or, slice_get_past}
-use Rattle.std.proofs.lemmas.List.Folds.{find-append, find-set, find_past, find_at}
-use Rattle.spd_edge.specs.Names.{updated, SameButFor}
+use Rattle.std.proofs.lemmas.List.Folds.{find-append, find-set, find_past, find_at, list_any-append}
+use Rattle.std.proofs.Math.Bool.{or-false}
+use Rattle.spd_edge.specs.Names.{is_among, updated, SameButFor}
 
 -- a text is itself
 pub bytes_eq-same : (name : List ℕ) → bytes_eq name name ≡ true
@@ -47,6 +48,11 @@ updated-again values name x y i other =
 pub updated-kept : {X : Type 0} (values : List ℕ → X) (name : List ℕ) (x : X) → values name ≡ x → updated values name x ≡ values
 updated-kept values name x is i other =
     bytes_eq-cases (λ b. cond b x (values other) ≡ values other) other name (λ same. sym is ∙ ap values (sym same)) (λ _. refl) i
+
+-- the names among which one was put last
+pub is_among-push : (names : List (List ℕ)) (name : List ℕ) (other : List ℕ) → is_among (names ++ name ∷ []) other ≡ (is_among names other || bytes_eq name other)
+is_among-push names name other =
+    list_any-append (λ each. bytes_eq each other) names (name ∷ []) ∙ ap (λ b. is_among names other || b) (or-false (bytes_eq name other))
 
 module _ {E : Type 0} (label : E → List ℕ) where
   -- the first element that stands under a name

@@ -1,6 +1,7 @@
 pub mod Counts
 pub mod Direction
 pub mod Memory
+pub mod MemoryPlace
 pub mod Names
 pub mod Openings
 pub mod Real

@@ -4,9 +4,11 @@
 #![tactic(auto)]
 
 mod in_memory;
+mod names;
 mod openings;
 mod outside;
 mod real;
+mod shelf;
 mod streams;
 mod whole;
 

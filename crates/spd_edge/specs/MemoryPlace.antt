@@ -1,0 +1,75 @@
+-- A place in memory: what was put there, by name.
+use Rattle.std.specs.Prelude.{◌≡◌, ℕ, List, [], Option, None, Some, Bool, find, option_map, ◌||◌, ◌&&◌, is_none, if◌then◌else◌}
+use Rattle.std.specs.Option.{option_map_or}
+use Rattle.std.specs.Str.{bytes_eq}
+use Rattle.spd_edge.specs.Counts.{counted}
+use Rattle.spd_edge.specs.Direction.{Direction}
+use Rattle.spd_edge.specs.Memory.{Input, Output}
+use Rattle.spd_edge.specs.Names.{is_among}
+use Rattle.spd_edge.specs.declared.outside.Stage.{Stage}
+use Rattle.spd_edge.specs.declared.outside.Stage.TheVariants as Stage
+use Rattle.spd_edge.specs.declared.shelf.Put.{Put}
+
+-- what one direction keeps: what was put there, the other names that it was asked to open, and the count of faults of all these
+pub record Kept (X : Type 0) : Type 0 where
+  pub puts : List (Put X)
+  pub refused : List (List ℕ)
+  pub faults : ℕ
+
+-- one direction by name: what was put under a name, what was closed under it, how far the place came with it, and its count of faults
+pub record Shelf (X : Type 0) : Type 0 where
+  pub put : List ℕ → Option X
+  pub closed : List ℕ → Option X
+  pub stage : List ℕ → Option Stage
+  pub faults : List ℕ → ℕ
+
+-- a shelf with nothing on it
+abbrev pub empty_shelf : {X : Type 0} → Shelf X
+empty_shelf = record { put = λ _. None; closed = λ _. None; stage = λ _. None; faults = λ _. 0 }
+
+-- what was put under a name, with its counts
+abbrev pub put_among : {X : Type 0} → List (Put X) → List ℕ → Option (Put X)
+put_among puts name = find (λ put. bytes_eq put.name.items name) puts
+
+-- what a direction shows by name: names under which nothing was put share one count, and opens of them fail
+abbrev pub shelf_of : {X : Type 0} → Kept X → Shelf X
+shelf_of kept = record {
+  put = λ name. option_map (λ put. put.object) (put_among kept.puts name);
+  closed = λ name. option_map_or (λ put. put.closed) (put_among kept.puts name) None;
+  stage = λ name. option_map_or (λ put. put.stage) (put_among kept.puts name) (if is_among kept.refused name then Some Stage.Unopened else None);
+  faults = λ name. option_map_or (λ put. put.faults) (put_among kept.puts name) kept.faults;
+}
+
+-- whether two names have one count of faults: they are the same, or nothing was put under either
+abbrev pub shares_count : {X : Type 0} → Shelf X → List ℕ → List ℕ → Bool
+shares_count shelf name other = bytes_eq other name || (is_none (shelf.put name) && is_none (shelf.put other))
+
+-- more faults of a name are counted
+abbrev pub counting : {X : Type 0} → Shelf X → List ℕ → ℕ → Shelf X
+counting shelf name more = record shelf { faults = λ other. if shares_count shelf name other then counted (shelf.faults other) more else shelf.faults other }
+
+-- a place in memory, and its inputs and outputs by name
+pub record MemoryPlace : Type 0 where
+  pub inputs : Kept Input
+  pub outputs : Kept Output
+
+abbrev pub inputs_of : MemoryPlace → Shelf Input
+inputs_of place = shelf_of place.inputs
+
+abbrev pub outputs_of : MemoryPlace → Shelf Output
+outputs_of place = shelf_of place.outputs
+
+-- an input that was put there has counted no fault, and an output that was put there has taken nothing either
+abbrev pub IsUnread : Input → Type 0
+IsUnread input = input.faults ≡ 0
+
+abbrev pub IsUnwritten : Output → Type 0
+IsUnwritten output = (output.faults ≡ 0) × (output.taken ≡ [])
+
+-- what a place in memory shows of its inputs: it holds what the inputs that were put there have left
+abbrev pub input_direction : Shelf Input → Direction
+input_direction shelf = record { stage = shelf.stage; faults = shelf.faults; holds = λ name. option_map (λ input. input.left) (shelf.put name) }
+
+-- and of its outputs: it holds what the outputs that were closed took
+abbrev pub output_direction : Shelf Output → Direction
+output_direction shelf = record { stage = shelf.stage; faults = shelf.faults; holds = λ name. option_map (λ output. output.taken) (shelf.closed name) }
