@@ -1,11 +1,13 @@
 -- A place in memory: what was put there, by name.
-use Rattle.std.specs.Prelude.{◌≡◌, ℕ, List, [], Option, None, Some, Bool, find, option_map, ◌||◌, ◌&&◌, is_none, if◌then◌else◌}
+use Rattle.std.specs.Prelude.{◌≡◌, ℕ, List, [], Option, None, Some, Result, Ok, Err, IfSome, Bool, find, option_map, ◌||◌, ◌&&◌, is_none, if◌then◌else◌}
 use Rattle.std.specs.Option.{option_map_or}
 use Rattle.std.specs.Str.{bytes_eq}
 use Rattle.spd_edge.specs.Counts.{counted}
 use Rattle.spd_edge.specs.Direction.{Direction}
 use Rattle.spd_edge.specs.Memory.{Input, Output}
-use Rattle.spd_edge.specs.Names.{is_among}
+use Rattle.spd_edge.specs.Names.{is_among, updated}
+use Rattle.spd_edge.specs.declared.outside.Open.{Open}
+use Rattle.spd_edge.specs.declared.outside.Open.TheVariants as Open
 use Rattle.spd_edge.specs.declared.outside.Stage.{Stage}
 use Rattle.spd_edge.specs.declared.outside.Stage.TheVariants as Stage
 use Rattle.spd_edge.specs.declared.shelf.Put.{Put}
@@ -48,6 +50,25 @@ shares_count shelf name other = bytes_eq other name || (is_none (shelf.put name)
 abbrev pub counting : {X : Type 0} → Shelf X → List ℕ → ℕ → Shelf X
 counting shelf name more = record shelf { faults = λ other. if shares_count shelf name other then counted (shelf.faults other) more else shelf.faults other }
 
+-- a name under which something was put is open
+abbrev pub opened_on : {X : Type 0} → Shelf X → List ℕ → Shelf X
+opened_on shelf name = record shelf { stage = updated shelf.stage name (Some Stage.Open) }
+
+-- an open of a name is refused, which counts a fault of it
+abbrev pub refused_on : {X : Type 0} → Shelf X → List ℕ → Shelf X
+refused_on shelf name = counting (record shelf { stage = updated shelf.stage name (Some Stage.Unopened) }) name 1
+
+-- an object is closed under a name, whose count rises by these faults
+abbrev pub closed_on : {X : Type 0} → Shelf X → List ℕ → X → ℕ → Shelf X
+closed_on shelf name object faults =
+    counting (record shelf { closed = updated shelf.closed name (Some object); stage = updated shelf.stage name (Some Stage.Closed) }) name faults
+
+-- what an open of a name gives and changes, by its answer: it fails exactly where nothing was put under the name
+abbrev pub OpensOn : {X : Type 0} → Shelf X → Shelf X → List ℕ → Result X Open → Type 0
+OpensOn before now name (Ok object) = (before.put name ≡ Some object) × (now ≡ opened_on before name)
+OpensOn before now name (Err Open.Failed) = (before.put name ≡ None) × (now ≡ refused_on before name)
+OpensOn before now name (Err Open.Memory) = now ≡ before
+
 -- a place in memory, and its inputs and outputs by name
 pub record MemoryPlace : Type 0 where
   pub inputs : Kept Input
@@ -59,12 +80,16 @@ inputs_of place = shelf_of place.inputs
 abbrev pub outputs_of : MemoryPlace → Shelf Output
 outputs_of place = shelf_of place.outputs
 
--- an input that was put there has counted no fault, and an output that was put there has taken nothing either
-abbrev pub IsUnread : Input → Type 0
-IsUnread input = input.faults ≡ 0
+-- each object that was put on a shelf meets a condition together with its name
+abbrev pub AllPut : {X : Type 0} → (List ℕ → X → Type 0) → Shelf X → Type 0
+AllPut P shelf = (name : List ℕ) → IfSome (shelf.put name) (P name)
 
-abbrev pub IsUnwritten : Output → Type 0
-IsUnwritten output = (output.faults ≡ 0) × (output.taken ≡ [])
+-- an input that was put there shows its name and has counted no fault; an output that was put there has taken nothing either
+abbrev pub IsUnread : List ℕ → Input → Type 0
+IsUnread name input = (input.name ≡ name) × (input.faults ≡ 0)
+
+abbrev pub IsUnwritten : List ℕ → Output → Type 0
+IsUnwritten name output = (output.name ≡ name) × (output.faults ≡ 0) × (output.taken ≡ [])
 
 -- what a place in memory shows of its inputs: it holds what the inputs that were put there have left
 abbrev pub input_direction : Shelf Input → Direction

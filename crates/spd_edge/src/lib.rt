@@ -4,15 +4,19 @@
 #![tactic(auto)]
 
 mod in_memory;
+mod mem_place;
 mod names;
 mod openings;
 mod outside;
 mod real;
 mod shelf;
 mod streams;
+#[cfg(test)]
+mod tests;
 mod whole;
 
 pub use in_memory::{MemIn, MemOut};
+pub use mem_place::MemPlace;
 pub use outside::{Failed, Memory, Open, Opened, Place, ReadAll, Sink, Source, Stage};
 pub use real::{Printed, RealPlace, Stream};
 pub use streams::{FileIn, FileOut, ReaderIn, StdErr, StdIn, StdOut, WriterOut};

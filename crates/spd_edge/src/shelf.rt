@@ -59,7 +59,7 @@ impl<T> Model for Shelf<T> {
 }
 
 impl<T: Drop> Shelf<T> {
-    ghost use Rattle.spd_edge.specs.MemoryPlace.{counting, empty_shelf, shelf_of};
+    ghost use Rattle.spd_edge.specs.MemoryPlace.{closed_on, empty_shelf, opened_on, refused_on, shelf_of};
 
     pub(crate) fn new(alloc: Global) -> Shelf<T>
         ensures { shelf_of result ≡ empty_shelf }
@@ -114,7 +114,7 @@ impl<T: Drop> Shelf<T> {
     /// Refuses to open a name under which nothing was put, and counts a fault.
     pub(crate) fn refuse(&mut self, name: &[u8]) -> Result<(), Memory>
         requires { (shelf_of self.old).put name.now ≡ None }
-        ensures ok { OnOk result (shelf_of self.new ≡ counting (record (shelf_of self.old) { stage = updated (shelf_of self.old).stage name.now (Some Stage.Unopened) }) name.now 1) }
+        ensures ok { OnOk result (shelf_of self.new ≡ refused_on (shelf_of self.old) name.now) }
         ensures err { OnErr result (self.new ≡ self.old) }
         ensures in_range { AllInRange (shelf_of self.new).faults }
     {
@@ -126,7 +126,7 @@ impl<T: Drop> Shelf<T> {
     /// Notes that what was put under a name is open.
     pub(crate) fn mark_open(&mut self, name: &[u8])
         requires { IsSome ((shelf_of self.old).put name.now) }
-        ensures opened { shelf_of self.new ≡ record (shelf_of self.old) { stage = updated (shelf_of self.old).stage name.now (Some Stage.Open) } }
+        ensures opened { shelf_of self.new ≡ opened_on (shelf_of self.old) name.now }
         ensures in_range { AllInRange (shelf_of self.new).faults }
     {
         match find_put(&self.puts, name) {
@@ -141,8 +141,9 @@ impl<T: Drop> Shelf<T> {
     /// Closes an object under a name that is open, and adds faults to the name's count.
     pub(crate) fn close(&mut self, name: &[u8], object: T, faults: u64)
         requires { (shelf_of self.old).stage name.now ≡ Some Stage.Open }
-        ensures closed { shelf_of self.new ≡ counting (record (shelf_of self.old) { closed = updated (shelf_of self.old).closed name.now (Some object); stage = updated (shelf_of self.old).stage name.now (Some Stage.Closed) }) name.now faults }
+        ensures closed { shelf_of self.new ≡ closed_on (shelf_of self.old) name.now object faults }
         ensures in_range { AllInRange (shelf_of self.new).faults }
+        ensures in_range_before { AllInRange (shelf_of self.old).faults }
     {
         match find_put(&self.puts, name) {
             Some(at) => {

@@ -1,4 +1,4 @@
-use Rattle.std.proofs.Common.{◌≡◌, ap, sym, ◌∙◌, List, ℕ, None, Some, Option, Bool, IsSome, refl, subst, rules}
+use Rattle.std.proofs.Common.{◌≡◌, ap, sym, ◌∙◌, List, ℕ, None, Some, IsSome, refl, subst}
 use Rattle.std.specs.Prelude.{option_map, position, slice_set}
 use Rattle.std.specs.Str.{bytes_eq}
 use Rattle.spd_edge.specs.declared.openings.Opening.{Opening}

@@ -1,6 +1,5 @@
-use Rattle.std.proofs.Common.{◌≡◌, ◌+◌, ◌-◌, ◌^◌, ℕ, List, Option, min, ap, ◌∙◌, arith, rules, Some}
+use Rattle.std.proofs.Common.{◌≡◌, ℕ, List, Option, ap, ◌∙◌, arith, Some}
 use Rattle.spd_edge.specs.declared.outside.Stage.{Stage}
-use Rattle.spd_edge.specs.declared.outside.Stage.TheVariants as Stage
 use Rattle.spd_edge.specs.Openings.{stage_among}
 use Rattle.spd_edge.proofs.NamesLemmas.{updated-same, updated-other}
 use Rattle.spd_edge.proofs.real.RealDirection.close.Goals as goal

@@ -1,8 +1,8 @@
-use Rattle.std.proofs.Common.{◌≡◌, ◌^◌, ◌<◌, ap, sym, ◌∙◌, subst, None, Some, Option, IsSome, refl}
-use Rattle.std.specs.Prelude.{position, option_map}
+use Rattle.std.proofs.Common.{◌≡◌, ap, sym, ◌∙◌, None, Some}
+use Rattle.std.specs.Prelude.{position}
 use Rattle.std.specs.Str.{bytes_eq}
 use Rattle.spd_edge.specs.declared.outside.Stage.TheVariants as Stage
-use Rattle.spd_edge.proofs.ShelfLemmas.{label, shelf-close, shelf-missing, stranger-not_open, shelf-set-in_range}
+use Rattle.spd_edge.proofs.ShelfLemmas.{label, shelf-close, shelf-missing, stranger-not_open, shelf-in_range, shelf-set-in_range}
 use Rattle.spd_edge.proofs.shelf.Shelf.close.Goals as goal
 
 pub unreachable-requires : goal.unreachable-requires
@@ -25,3 +25,6 @@ returns-clause-in_range g c =
     let put = c.index_mut-put.result.now in
     shelf-set-in_range (record { puts = c.self.inside.puts.items; refused = c.self.inside.refused; faults = c.self.inside.faults }) c.in-Some.at
     (record put { closed = Some c.args.object; stage = Some Stage.Closed; faults = c.saturating_add-put.result }) c.self.invariant.0 c.self.invariant.1 c.saturating_add-put.type_inv
+
+pub returns-clause-in_range_before : goal.returns-clause-in_range_before
+returns-clause-in_range_before g c = shelf-in_range (record { puts = c.self.inside.puts.items; refused = c.self.inside.refused; faults = c.self.inside.faults }) c.args.self.now c.self.view_is c.self.invariant.0 c.self.invariant.1

@@ -1,10 +1,7 @@
-use Rattle.std.proofs.Common.{◌≡◌, ◌^◌, ◌<◌, ap, sym, ◌∙◌, subst, None, Some, Option, IsSome, refl}
+use Rattle.std.proofs.Common.{◌≡◌, ap, sym, ◌∙◌, subst, None, Some, IsSome}
 use Rattle.std.specs.Prelude.{position, option_map}
 use Rattle.std.specs.Str.{bytes_eq}
-use Rattle.std.proofs.lemmas.List.Elements.{All-set}
-use Rattle.std.proofs.lemmas.List.Quantifiers.{position-Some}
 use Rattle.spd_edge.specs.declared.outside.Stage.TheVariants as Stage
-use Rattle.spd_edge.specs.MemoryPlace.{shelf_of}
 use Rattle.spd_edge.proofs.ShelfLemmas.{label, shelf-open, shelf-missing, shelf-set-in_range, put-in_range}
 use Rattle.spd_edge.proofs.shelf.Shelf.mark_open.Goals as goal
 
