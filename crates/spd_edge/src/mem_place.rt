@@ -150,6 +150,7 @@ impl Place for MemPlace {
         ensures outputs { outputs_of self.new ≡ outputs_of self.old }
 
         // Of the trait's clauses, those that do not follow.
+        ensures holds { (input_direction (inputs_of self.new)).holds ≡ (input_direction (inputs_of self.old)).holds }
         ensures inputs { Closes (input_direction (inputs_of self.old)) (input_direction (inputs_of self.new)) name.now input.faults }
         ensures never_falls { NoneFalls (inputs_of self.old).faults (inputs_of self.new).faults }
         ensures in_range { AllInRange (inputs_of self.new).faults }
@@ -165,6 +166,8 @@ impl Place for MemPlace {
         ensures inputs { inputs_of self.new ≡ inputs_of self.old }
 
         // Of the trait's clauses, those that do not follow.
+        ensures holds { (output_direction (outputs_of self.new)).holds name.now ≡ Some output.taken }
+        ensures other_holds { SameButFor (output_direction (outputs_of self.old)).holds (output_direction (outputs_of self.new)).holds name.now }
         ensures outputs { Closes (output_direction (outputs_of self.old)) (output_direction (outputs_of self.new)) name.now output.faults }
         ensures never_falls { NoneFalls (outputs_of self.old).faults (outputs_of self.new).faults }
         ensures in_range { AllInRange (outputs_of self.new).faults }

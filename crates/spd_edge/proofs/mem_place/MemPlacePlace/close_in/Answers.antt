@@ -1,7 +1,7 @@
 use Rattle.std.proofs.Common.{◌≡◌, ap, ◌∙◌, refl, subst}
 use Rattle.spd_edge.specs.Counts.{AllInRange}
 use Rattle.spd_edge.specs.Memory.{Input}
-use Rattle.spd_edge.specs.MemoryPlace.{IsUnread, MemoryPlace, Shelf, closed_on, inputs_of, shelf_of}
+use Rattle.spd_edge.specs.MemoryPlace.{IsUnread, MemoryPlace, Shelf, input_direction, closed_on, inputs_of, shelf_of}
 use Rattle.spd_edge.proofs.MemoryPlaceLemmas.{bytes_put, AllPut-kept, Closes-closed, NoneFalls-counting}
 use Rattle.spd_edge.proofs.mem_place.MemPlacePlace.close_in.Goals as goal
 
@@ -27,3 +27,6 @@ returns-clause-inputs c =
 pub returns-clause-never_falls : goal.returns-clause-never_falls
 returns-clause-never_falls c =
     NoneFalls-counting (inputs_of c.args.self.now) _ (shelf_of c.close.new.self) c.args.name.now c.args.input.faults (in_range c) refl (closed c)
+
+pub returns-clause-holds : goal.returns-clause-holds
+returns-clause-holds c = ap (λ (s : Shelf Input). (input_direction s).holds) (closed c)

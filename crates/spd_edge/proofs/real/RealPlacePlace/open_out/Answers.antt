@@ -16,7 +16,7 @@ returns-clause-outputs g c =
 
 pub returns-clause-never_falls : goal.returns-clause-never_falls
 returns-clause-never_falls g c = λ name.
-    let before = ap (λ (place : RealDirections). place.outputs.faults) c.self.view_is in
+    let before : c.self.inside.outputs.faults ≡ c.args.self.now.outputs.faults = ap (λ (place : RealDirections). place.outputs.faults) c.self.view_is in
     let asked = ap (λ (d : Direction). d.faults name) c.in_ok-ask.ensures.ok in
     let opened = ap (λ (d : Direction). d.faults name) c.in_ok-stream.ensures.opened in
     omega (arith, before, asked, opened)
@@ -30,7 +30,7 @@ returns-in_err-stream-clause-outputs g c =
 
 pub returns-in_err-stream-clause-never_falls : goal.returns-in_err-stream-clause-never_falls
 returns-in_err-stream-clause-never_falls g c = λ name.
-    let before = ap (λ (place : RealDirections). place.outputs.faults) c.self.view_is in
+    let before : c.self.inside.outputs.faults ≡ c.args.self.now.outputs.faults = ap (λ (place : RealDirections). place.outputs.faults) c.self.view_is in
     let asked = ap (λ (d : Direction). d.faults name) c.in_ok-ask.ensures.ok in
     let failed = ap (λ (d : Direction). d.faults name) c.in_err-stream.ensures.failed in
     let in_range = c.ask.new.self.in_range in
