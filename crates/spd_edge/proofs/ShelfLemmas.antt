@@ -28,6 +28,7 @@ module _ {X : Type 0} where
       subst P (get_or_from_slice_get puts (position_or_len test puts) put put at) (all (position_or_len test puts) put (slice_get_within puts (position_or_len test puts) put at))
 
   in_range : (kept : Kept X) → All (λ put. put.faults < 2 ^ 64) kept.puts → kept.faults < 2 ^ 64 → AllInRange (shelf_of kept).faults
+  unfolding shelf_of
   in_range kept all shared name =
       elim (put_among kept.puts name) as (λ o. put_among kept.puts name ≡ o → option_map_or (λ put. put.faults) o kept.faults < 2 ^ 64) [
         | None ↦ λ _. shared
@@ -45,6 +46,7 @@ module _ {X : Type 0} where
 
   renewed-by : (kept now : Kept X) (name : List ℕ) (put : Put X) → now.refused ≡ kept.refused → now.faults ≡ kept.faults
       → put_among now.puts ≡ updated (put_among kept.puts) name (Some put) → shelf_of now ≡ renewed (shelf_of kept) name put
+  unfolding shelf_of
   renewed-by kept now name put refused faults is =
       let others : shelf_of now ≡ shelf_of (record kept { puts = now.puts }) = λ i. shelf_of (record { puts = now.puts; refused = refused i; faults = faults i }) in
       let objects = shown-updated (λ each. each.object) (put_among kept.puts) (put_among now.puts) name put is in
@@ -58,6 +60,7 @@ module _ {X : Type 0} where
   -- nothing of a name is anew but its stage
   pub renewed-stage : (kept : Kept X) (name : List ℕ) (put : Put X) (stage : Option Stage) → put_among kept.puts name ≡ Some put
       → renewed (shelf_of kept) name (record put { stage = stage }) ≡ record (shelf_of kept) { stage = updated (shelf_of kept).stage name stage }
+  unfolding shelf_of
   renewed-stage kept name put stage found =
       let shelf = shelf_of kept in
       let objects = updated-kept shelf.put name (Some put.object) (ap (option_map (λ each. each.object)) found) in
@@ -83,6 +86,7 @@ module _ {X : Type 0} where
       → now ≡ record put { closed = Some object; stage = Some Stage.Closed; faults = counted put.faults more }
       → renewed (shelf_of kept) name now
         ≡ counting (record (shelf_of kept) { closed = updated (shelf_of kept).closed name (Some object); stage = updated (shelf_of kept).stage name (Some Stage.Closed) }) name more
+  unfolding shelf_of
   renewed-closed kept name put now object more found is =
       let shelf = shelf_of kept in
       let here : shelf.put name ≡ Some put.object = ap (option_map (λ each. each.object)) found in
@@ -103,6 +107,7 @@ module _ {X : Type 0} where
   refused-by : (kept : Kept X) (name : List ℕ) → put_among kept.puts name ≡ None
       → shelf_of (record kept { refused = kept.refused ++ name ∷ []; faults = counted kept.faults 1 })
         ≡ counting (record (shelf_of kept) { stage = updated (shelf_of kept).stage name (Some Stage.Unopened) }) name 1
+  unfolding shelf_of
   refused-by kept name none =
       let shelf = shelf_of kept in
       let now : Kept X = record kept { refused = kept.refused ++ name ∷ []; faults = counted kept.faults 1 } in
@@ -131,10 +136,12 @@ module _ {X : Type 0} where
 
   -- a name under which nothing is shown to be put has nothing put under it
   put-None : (kept : Kept X) (name : List ℕ) → (shelf_of kept).put name ≡ None → put_among kept.puts name ≡ None
+  unfolding shelf_of
   put-None kept name none = option_map-None (λ put. put.object) (put_among kept.puts name) none
 
   -- a name under which nothing was put isn't open
   pub stranger-not_open : (kept : Kept X) (name : List ℕ) → put_among kept.puts name ≡ None → (shelf_of kept).stage name ≢ Some Stage.Open
+  unfolding shelf_of
   stranger-not_open kept name none is =
       let never : (b : Bool) → cond b (Some Stage.Unopened) None ≢ Some Stage.Open = λ b. elim b as (λ v. cond v (Some Stage.Unopened) None ≢ Some Stage.Open) [ true ↦ λ e. cc e | false ↦ λ e. cc e ] in
       never (is_among kept.refused name) (ap (λ o. option_map_or (λ each. each.stage) o (cond (is_among kept.refused name) (Some Stage.Unopened) None)) (sym none) ∙ is)
@@ -151,11 +158,13 @@ module _ {X : Type 0} where
 
   -- the count of each name is in range
   pub shelf-in_range : (kept held : Kept X) → kept ≡ held → All (λ put. put.faults < 2 ^ 64) kept.puts → kept.faults < 2 ^ 64 → AllInRange (shelf_of held).faults
+  unfolding shelf_of
   shelf-in_range kept held same all shared = subst (λ (h : Kept X). AllInRange (shelf_of h).faults) same (in_range kept all shared)
 
   -- so is it where what was put under one name is written anew
   pub shelf-set-in_range : (kept : Kept X) (at : ℕ) (now : Put X) → All (λ put. put.faults < 2 ^ 64) kept.puts → kept.faults < 2 ^ 64 → now.faults < 2 ^ 64
       → AllInRange (shelf_of (record kept { puts = slice_set kept.puts at now })).faults
+  unfolding shelf_of
   shelf-set-in_range kept at now all shared here =
       in_range (record kept { puts = slice_set kept.puts at now }) (All-set (λ put. put.faults < 2 ^ 64) kept.puts at now here all) shared
 
@@ -168,6 +177,7 @@ module _ {X : Type 0} where
   pub shelf-refuse : (kept now held : Kept X) (name : List ℕ) → kept ≡ held → (shelf_of held).put name ≡ None
       → now.puts ≡ kept.puts → now.refused ≡ kept.refused ++ name ∷ [] → now.faults ≡ counted kept.faults 1
       → shelf_of now ≡ counting (record (shelf_of held) { stage = updated (shelf_of held).stage name (Some Stage.Unopened) }) name 1
+  unfolding shelf_of
   shelf-refuse kept now held name same none puts refused faults =
       subst (λ (h : Kept X). (shelf_of h).put name ≡ None → shelf_of now ≡ counting (record (shelf_of h) { stage = updated (shelf_of h).stage name (Some Stage.Unopened) }) name 1) same
       (λ shown.
@@ -181,6 +191,7 @@ module _ {X : Type 0} where
       → now.puts ≡ kept.puts ++ put ∷ [] → now.refused ≡ kept.refused → now.faults ≡ kept.faults
       → put.closed ≡ None → put.stage ≡ cond (is_among kept.refused name) (Some Stage.Unopened) None → put.faults ≡ kept.faults
       → shelf_of now ≡ record (shelf_of held) { put = updated (shelf_of held).put name (Some put.object) }
+  unfolding shelf_of
   shelf-put kept now held name put same none named puts refused faults closed stage count =
       subst (λ (h : Kept X). (shelf_of h).put name ≡ None → shelf_of now ≡ record (shelf_of h) { put = updated (shelf_of h).put name (Some put.object) }) same
       (λ shown.
@@ -199,6 +210,7 @@ module _ {X : Type 0} where
   pub shelf-open : (kept held : Kept X) (name : List ℕ) (at : ℕ) (put : Put X) → kept ≡ held → position (λ each. bytes_eq (label each) name) kept.puts ≡ Some at
       → put ≡ slice_index_or kept.puts at put
       → shelf_of (record kept { puts = slice_set kept.puts at (record put { stage = Some Stage.Open }) }) ≡ record (shelf_of held) { stage = updated (shelf_of held).stage name (Some Stage.Open) }
+  unfolding shelf_of
   shelf-open kept held name at put same place there =
       let now : Put X = record put { stage = Some Stage.Open } in
       let marked : Kept X → Shelf X = λ h. record (shelf_of h) { stage = updated (shelf_of h).stage name (Some Stage.Open) } in
@@ -211,6 +223,7 @@ module _ {X : Type 0} where
       → position (λ each. bytes_eq (label each) name) kept.puts ≡ Some at → put ≡ slice_index_or kept.puts at put → count ≡ counted put.faults more
       → shelf_of (record kept { puts = slice_set kept.puts at (record put { closed = Some object; stage = Some Stage.Closed; faults = count }) })
         ≡ counting (record (shelf_of held) { closed = updated (shelf_of held).closed name (Some object); stage = updated (shelf_of held).stage name (Some Stage.Closed) }) name more
+  unfolding shelf_of
   shelf-close kept held name at put object more count same place there is =
       let now : Put X = record put { closed = Some object; stage = Some Stage.Closed; faults = count } in
       let counts : now ≡ record put { closed = Some object; stage = Some Stage.Closed; faults = counted put.faults more } = λ i. record put { closed = Some object; stage = Some Stage.Closed; faults = is i } in

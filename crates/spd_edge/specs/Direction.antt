@@ -14,10 +14,6 @@ pub record Direction : Type 0 where
   pub faults : List ℕ → ℕ
   pub holds : List ℕ → Option (List ℕ)
 
--- a direction in which no name was asked for
-abbrev pub untouched : Direction
-untouched = record { stage = λ _. None; faults = λ _. 0; holds = λ _. None }
-
 -- a name came to this stage
 abbrev pub staged : Direction → List ℕ → Stage → Direction
 staged direction name stage = record direction { stage = updated direction.stage name (Some stage) }

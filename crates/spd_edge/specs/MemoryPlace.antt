@@ -33,8 +33,8 @@ empty_shelf = record { put = λ _. None; closed = λ _. None; stage = λ _. None
 abbrev pub put_among : {X : Type 0} → List (Put X) → List ℕ → Option (Put X)
 put_among puts name = find (λ put. bytes_eq put.name.items name) puts
 
--- what a direction shows by name: names under which nothing was put share one count, and opens of them fail
-abbrev pub shelf_of : {X : Type 0} → Kept X → Shelf X
+-- what a direction keeps, by name: names under which nothing was put share one count, and opens of them fail
+unfoldable pub shelf_of : {X : Type 0} → Kept X → Shelf X
 shelf_of kept = record {
   put = λ name. option_map (λ put. put.object) (put_among kept.puts name);
   closed = λ name. option_map_or (λ put. put.closed) (put_among kept.puts name) None;

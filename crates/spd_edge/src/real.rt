@@ -1,7 +1,7 @@
 //! The place of the system: its files and standard streams. It tells no bytes, and is the edge that is trusted.
-ghost use Rattle.std.specs.Prelude.{◌≡◌, ◌^◌, ◌<◌, ◌≤◌, ℕ, length, take, None, Some, IfOk, OnOk, OnErr, IfErr};
+ghost use Rattle.std.specs.Prelude.{◌≡◌, ◌^◌, ◌<◌, ◌≤◌, ℕ, List, [], None, Some, IfOk, OnOk, OnErr, IfErr};
 ghost use Rattle.spd_edge.specs.Counts.{AllInRange, NoneFalls, counted};
-ghost use Rattle.spd_edge.specs.Direction.{Closes, staged, untouched};
+ghost use Rattle.spd_edge.specs.Direction.{Closes, staged};
 ghost use Rattle.spd_edge.specs.declared.outside.Open.TheVariants as Open;
 ghost use Rattle.spd_edge.specs.declared.outside.Stage.TheVariants as Stage;
 
@@ -107,7 +107,8 @@ impl RealDirection {
     ghost use Rattle.spd_edge.specs.Real.{shown_by};
 
     fn new(alloc: Global) -> RealDirection
-        ensures { shown_by result ≡ untouched }
+        ensures openings { result.openings ≡ [] }
+        ensures no_fault_yet { result.faults ≡ 0 }
     {
         RealDirection {
             openings: Openings::new(alloc),
@@ -177,8 +178,9 @@ impl<R: AllocGlobal> RealPlace<R> {
 
     /// A place that was asked for no name. Its counts of faults begin at 0.
     pub fn new(rt: R) -> Self
-        ensures inputs { shown_by result.inputs ≡ untouched }
-        ensures outputs { shown_by result.outputs ≡ untouched }
+        ensures inputs { (name : List ℕ) → (shown_by result.inputs).stage name ≡ None }
+        ensures outputs { (name : List ℕ) → (shown_by result.outputs).stage name ≡ None }
+        ensures no_fault_yet { (name : List ℕ) → ((shown_by result.inputs).faults name ≡ 0) × ((shown_by result.outputs).faults name ≡ 0) }
     {
         RealPlace {
             inputs: RealDirection::new(rt.alloc()),

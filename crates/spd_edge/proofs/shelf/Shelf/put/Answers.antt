@@ -1,8 +1,10 @@
 use Rattle.std.proofs.Common.{refl, None, rules}
+use Rattle.spd_edge.specs.MemoryPlace.{shelf_of}
 use Rattle.spd_edge.proofs.ShelfLemmas.{shelf-put}
 use Rattle.spd_edge.proofs.shelf.Shelf.put.Goals as goal
 
 pub returns-clause-ok : goal.returns-clause-ok
+unfolding shelf_of
 returns-clause-ok g c =
     shelf-put
     (record { puts = c.self.inside.puts.items; refused = c.self.inside.refused; faults = c.self.inside.faults })
