@@ -96,14 +96,14 @@ module _ {E : Type 0} (label : E → List ℕ) where
       let named : label x ≡ name = found_label elements name x (under-found elements name at x is there) in
       bytes_eq-cases (λ b. under (slice_set elements at y) other ≡ cond b (Some y) (under elements other)) other name
       (λ same.
-        ap (under (slice_set elements at y)) same
-        ∙ find-set (λ element. bytes_eq (label element) name) elements at y first.0 first.1
-          ((bytes_eq-Decides (label y) name).1 (same_label ∙ named)))
+      ap (under (slice_set elements at y)) same
+      ∙ find-set (λ element. bytes_eq (label element) name) elements at y first.0 first.1
+      ((bytes_eq-Decides (label y) name).1 (same_label ∙ named)))
       (λ differ.
-        let fails : bytes_eq (label x) other ≡ false = bytes_eq-other (label x) other (λ same. differ (sym same ∙ named)) in
-        find_past (λ element. bytes_eq (label element) other) elements at y x
-        (ap (λ element. bytes_eq (label element) other) (sym there) ∙ fails)
-        (ap (λ l. bytes_eq l other) same_label ∙ fails))
+      let fails : bytes_eq (label x) other ≡ false = bytes_eq-other (label x) other (λ same. differ (sym same ∙ named)) in
+      find_past (λ element. bytes_eq (label element) other) elements at y x
+      (ap (λ element. bytes_eq (label element) other) (sym there) ∙ fails)
+      (ap (λ l. bytes_eq l other) same_label ∙ fails))
       i
 
   -- an element is put after the others, whose names are others
@@ -112,13 +112,13 @@ module _ {E : Type 0} (label : E → List ℕ) where
   under-push elements name y none named i other =
       bytes_eq-cases (λ b. under (elements ++ y ∷ []) other ≡ cond b (Some y) (under elements other)) other name
       (λ same.
-        find-append (λ element. bytes_eq (label element) other) elements (y ∷ [])
-        ∙ ap (λ o. option_or o (under (y ∷ []) other)) (ap (under elements) same ∙ none)
-        ∙ ap (λ b. cond b (Some y) None) ((bytes_eq-Decides (label y) other).1 (named ∙ sym same)))
+      find-append (λ element. bytes_eq (label element) other) elements (y ∷ [])
+      ∙ ap (λ o. option_or o (under (y ∷ []) other)) (ap (under elements) same ∙ none)
+      ∙ ap (λ b. cond b (Some y) None) ((bytes_eq-Decides (label y) other).1 (named ∙ sym same)))
       (λ differ.
-        find-append (λ element. bytes_eq (label element) other) elements (y ∷ [])
-        ∙ ap (λ b. option_or (under elements other) (cond b (Some y) None)) (bytes_eq-other (label y) other (λ same. differ (sym same ∙ named)))
-        ∙ or_none (under elements other))
+      find-append (λ element. bytes_eq (label element) other) elements (y ∷ [])
+      ∙ ap (λ b. option_or (under elements other) (cond b (Some y) None)) (bytes_eq-other (label y) other (λ same. differ (sym same ∙ named)))
+      ∙ or_none (under elements other))
       i
     where
       or_none : (o : Option E) → option_or o None ≡ o

@@ -63,4 +63,3 @@ full = refl
 empty_piece : is_refusing (after_taking narrow (3 ∷ [])) [] ≡ false
 unfolding narrow
 empty_piece = refl
-
