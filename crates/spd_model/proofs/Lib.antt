@@ -1,2 +1,6 @@
+pub mod CallerLemmas
+mod Walks
+mod Steps
+mod Pairs
 mod Rows
-pub mod TreeLaws
+mod RowsMany
