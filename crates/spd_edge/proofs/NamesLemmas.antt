@@ -9,19 +9,8 @@ use Rattle.std.proofs.lemmas.Slice.Eq.{bytes_eq-Decides}
 use Rattle.std.proofs.lemmas.Option.{slice_get-get_or, slice_get_past}
 use Rattle.std.proofs.lemmas.List.Folds.{find-append, find-set, find_past, find_at, list_any-append}
 use Rattle.std.proofs.Math.Bool.{or-false}
+use Rattle.spd_edge.proofs.CallerLemmas.{bytes_eq-same, bytes_eq-other}
 use Rattle.spd_edge.specs.Names.{is_among, updated, SameButFor}
-
--- a text is itself
-pub bytes_eq-same : (name : List ℕ) → bytes_eq name name ≡ true
-bytes_eq-same name = (bytes_eq-Decides name name).1 refl
-
--- a text isn't another
-pub bytes_eq-other : (name other : List ℕ) → name ≢ other → bytes_eq name other ≡ false
-bytes_eq-other name other differ =
-    elim (bytes_eq name other) as (λ b. bytes_eq name other ≡ b → b ≡ false) [
-      | true ↦ λ same. absurd (differ ((bytes_eq-Decides name other).0 same))
-      | false ↦ λ _. refl
-    ] refl
 
 -- whether or not a text is another
 pub bytes_eq-cases : (P : Bool → Type 0) (name other : List ℕ) → (name ≡ other → P true) → (name ≢ other → P false) → P (bytes_eq name other)
@@ -38,11 +27,6 @@ updated-same values name x = ap (λ b. cond b x (values name)) (bytes_eq-same na
 -- the values of the other names
 pub updated-other : {X : Type 0} (values : List ℕ → X) (name : List ℕ) (x : X) → SameButFor values (updated values name x) name
 updated-other values name x other differ = ap (λ b. cond b x (values other)) (bytes_eq-other other name differ)
-
--- the later of two updates of a name
-pub updated-again : {X : Type 0} (values : List ℕ → X) (name : List ℕ) (x y : X) → updated (updated values name x) name y ≡ updated values name y
-updated-again values name x y i other =
-    elim (bytes_eq other name) as (λ b. cond b y (cond b x (values other)) ≡ cond b y (values other)) [ true ↦ refl | false ↦ refl ] i
 
 -- an update by the value that is there
 pub updated-kept : {X : Type 0} (values : List ℕ → X) (name : List ℕ) (x : X) → values name ≡ x → updated values name x ≡ values

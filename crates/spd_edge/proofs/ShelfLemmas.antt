@@ -14,7 +14,8 @@ use Rattle.spd_edge.specs.declared.outside.Stage.TheVariants as Stage
 use Rattle.spd_edge.specs.Counts.{AllInRange, counted}
 use Rattle.spd_edge.specs.Names.{is_among, updated}
 use Rattle.spd_edge.specs.MemoryPlace.{Kept, Shelf, put_among, shelf_of, shares_count, counting}
-use Rattle.spd_edge.proofs.NamesLemmas.{bytes_eq-same, bytes_eq-other, bytes_eq-cases, updated-kept, under-set, under-push, under-found, under-none, option_map-None, shown-updated, shown_or-updated, is_among-push}
+use Rattle.spd_edge.proofs.CallerLemmas.{bytes_eq-same, bytes_eq-other}
+use Rattle.spd_edge.proofs.NamesLemmas.{bytes_eq-cases, updated-kept, under-set, under-push, under-found, under-none, option_map-None, shown-updated, shown_or-updated, is_among-push}
 
 module _ {X : Type 0} where
   abbrev pub label : Put X → List ℕ
