@@ -1,10 +1,8 @@
 -- What opens change in a direction.
-use Rattle.std.proofs.Common.{◌≡◌, ℕ, ◌≤◌, List, None, Some, Result, Ok, Err, refl, sym, ap, ◌∙◌, arith}
+use Rattle.std.proofs.Common.{◌≡◌, ℕ, List, Some, Result, Ok, Err, ap, ◌∙◌, arith}
 use Rattle.spd_edge.specs.declared.outside.Stage.{Stage}
-use Rattle.spd_edge.specs.declared.outside.Stage.TheVariants as Stage
 use Rattle.spd_edge.specs.declared.outside.Open.{Open}
-use Rattle.spd_edge.specs.declared.outside.Open.TheVariants as Open
-use Rattle.spd_edge.specs.Counts.{AllInRange, NoneFalls, counted, Rose}
+use Rattle.spd_edge.specs.Counts.{AllInRange, NoneFalls, counted}
 use Rattle.spd_edge.specs.Names.{SameButFor}
 use Rattle.spd_edge.specs.Direction.{Direction, AfterOpen, FailsToOpen, Opens, staged}
 use Rattle.spd_edge.proofs.NamesLemmas.{updated-same, updated-other}

@@ -1,9 +1,7 @@
 -- What opens and closes of a place in memory change, as a direction shows it.
-use Rattle.std.proofs.Common.{◌≡◌, ◌≢◌, ℕ, ◌+◌, ◌-◌, ◌^◌, ◌<◌, ◌≤◌, List, Bool, true, false, ◌||◌, ◌&&◌, cond, Option, None, Some, IfSome, refl, sym, ap, ◌∙◌, subst, arith}
+use Rattle.std.proofs.Common.{◌≡◌, ℕ, ◌≤◌, List, Bool, true, false, ◌||◌, ◌&&◌, cond, Option, Some, IfSome, refl, sym, ap, subst, arith}
 use Rattle.std.specs.Prelude.{is_none, option_map}
-use Rattle.std.specs.Str.{bytes_eq}
 use Rattle.spd_edge.specs.declared.outside.Stage.{Stage}
-use Rattle.spd_edge.specs.declared.outside.Stage.TheVariants as Stage
 use Rattle.spd_edge.specs.Counts.{AllInRange, NoneFalls, counted}
 use Rattle.spd_edge.specs.Direction.{Closes, Direction, FailsToOpen, Opens}
 use Rattle.spd_edge.specs.Memory.{Input, Output}

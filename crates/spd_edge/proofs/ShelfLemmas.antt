@@ -1,6 +1,6 @@
 -- One direction of a place in memory, by name.
-use Rattle.std.proofs.Common.{◌≡◌, ◌≢◌, ℕ, ◌+◌, ◌-◌, ◌^◌, ◌<◌, ◌≤◌, List, [], ◌∷◌, ◌++◌, Bool, true, false, ◌||◌, ◌&&◌, cond, Option, None, Some, All, refl, sym, ap, ◌∙◌, subst, arith}
-use Rattle.std.specs.Prelude.{find, position, option_map, slice_set, slice_index_or, slice_get, is_none}
+use Rattle.std.proofs.Common.{◌≡◌, ◌≢◌, ℕ, ◌^◌, ◌<◌, List, [], ◌∷◌, ◌++◌, Bool, true, false, ◌||◌, ◌&&◌, cond, Option, None, Some, All, refl, sym, ap, ◌∙◌, subst}
+use Rattle.std.specs.Prelude.{position, option_map, slice_set, slice_index_or, slice_get, is_none}
 use Rattle.std.specs.Option.{option_map_or}
 use Rattle.std.specs.List.{position_or_len}
 use Rattle.std.specs.Str.{bytes_eq}
@@ -10,7 +10,6 @@ use Rattle.std.proofs.lemmas.List.Elements.{All-set}
 use Rattle.std.proofs.lemmas.List.Folds.{find_at}
 use Rattle.spd_edge.specs.declared.shelf.Put.{Put}
 use Rattle.spd_edge.specs.declared.outside.Stage.{Stage}
-use Rattle.spd_edge.specs.declared.outside.Stage.TheVariants as Stage
 use Rattle.spd_edge.specs.Counts.{AllInRange, counted}
 use Rattle.spd_edge.specs.Names.{is_among, updated}
 use Rattle.spd_edge.specs.MemoryPlace.{Kept, Shelf, put_among, shelf_of, shares_count, counting}

@@ -1,6 +1,6 @@
 use Rattle.std.proofs.Common.{◌≡◌, ap, ◌∙◌, rules}
 use Rattle.spd_edge.specs.declared.outside.Stage.TheVariants as Stage
-use Rattle.spd_edge.specs.Direction.{Direction, staged}
+use Rattle.spd_edge.specs.Direction.{staged}
 use Rattle.spd_edge.specs.Real.{RealDirections, shown_by}
 use Rattle.spd_edge.proofs.DirectionLemmas.{staged-stage, Opens-staged, FailsToOpen-staged, AfterOpen-failed, NoneFalls-opened, NoneFalls-failed}
 use Rattle.spd_edge.proofs.real.RealPlacePlace.open_out.Goals as goal
