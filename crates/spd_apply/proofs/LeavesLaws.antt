@@ -26,8 +26,7 @@ use Rattle.spd_nodes.specs.Trees.{Tree, Ends, Tests, tree_eq, leaf_eq, value_at,
 use Rattle.spd_nodes.specs.States.{point, plain_part, primed_part, test_tree}
 use Rattle.spd_nodes.specs.Shown.{Shown, IsSound, IsWhole, meaning}
 use Rattle.spd_nodes.specs.Refs.{HasTree, IsReached, entry_eq}
-use Rattle.spd_nodes.proofs.TreeLaws.{leaf_eq-refl, leaf_eq-true}
-use Rattle.spd_nodes.proofs.StateLaws.{positive-slots, test_tree-function_of, IsPointOf, point-parts}
+use Rattle.spd_nodes.proofs.CallerLemmas.{IsPointOf, leaf_eq-refl, leaf_eq-true, point-parts, positive-slots, test_tree-function_of}
 use Rattle.spd_apply.specs.Leaves.{leaf_before, IsTaken, AreLeavesOf}
 
 -- the leaf at a point is a node of the tree

@@ -10,6 +10,7 @@ pub mod operations;
 pub mod pointwise;
 pub mod rounding;
 pub mod rule;
+pub mod split;
 pub mod unary;
 
 pub use binary::apply;
@@ -18,9 +19,10 @@ pub use leaves::leaves_of;
 pub use make::{make_alone, make_pair};
 pub use maps::{ActNum, First, Second, SecondAct};
 pub use operations::{Add, Keep, MakePair, Max, Min, Mul, PickFirst, Sub};
-pub use pointwise::{Pointwise, halves, lower_level};
+pub use pointwise::Pointwise;
 pub use rounding::{CeilBy, FloorBy, TimesCeil, TimesFloor};
-pub use rule::{Below, OpFault, Plan, Rule};
+pub use rule::{Below, Descent, Node, OpFault, Plan, Rule};
+pub use split::{halves, lower_level, test_of_halves};
 pub use unary::{EachLeaf, map_leaves};
 
 #[cfg(test)]

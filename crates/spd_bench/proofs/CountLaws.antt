@@ -12,7 +12,7 @@ use Rattle.spd_nodes.specs.Shown.{Shown, IsSound, Grows, KnowsAs, IsWhole, Stand
 use Rattle.spd_apply.specs.Applied.{applied, mapped, against}
 use Rattle.spd_apply.specs.Operations.{num_of, num_fits, are_nums}
 use Rattle.spd_apply.specs.Outcome.{FitEverywhere, at_each}
-use Rattle.spd_apply.proofs.HalfLaws.{IsFrom-lower}
+use Rattle.spd_nodes.proofs.CallerLemmas.{IsFrom-lower}
 use Rattle.spd_apply.proofs.WholeLaws.{made-tree, apply-reduced, apply-whole, apply-value}
 use Rattle.spd_restrict.specs.Primed.{is_plain_level, TestsNoPrimed}
 use Rattle.spd_bench.specs.Built.{twos, is_num_to, CountsTo, IsCount, FitsTo, IsApplied}

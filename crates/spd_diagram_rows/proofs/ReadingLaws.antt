@@ -6,18 +6,14 @@ use Rattle.std.proofs.lemmas.List.{take_all}
 use Rattle.std.proofs.lemmas.List.Elements.{All-contains}
 use Rattle.spd_cons_core.specs.declared.key.Entry.{Entry}
 use Rattle.spd_nodes.specs.declared.leaf.Leaf.{Leaf}
-use Rattle.spd_nodes.specs.Levels.{levels_of, slots, slot_of, level_at, after, is_first, IsTestOf}
+use Rattle.spd_nodes.specs.Levels.{levels_of, slots, slot_of, level_at, after, is_first, IsTestOf, IsSlot}
 use Rattle.spd_nodes.specs.Trees.{Tree, Ends, Tests, IsFrom, IsReduced, IsNode, Itself, InYes, InNo}
 use Rattle.spd_nodes.specs.Shown.{Shown, IsSound, meaning}
 use Rattle.spd_nodes.specs.Refs.{HasTree, IsReached}
-use Rattle.spd_nodes.proofs.LayoutLaws.{level-plain}
-use Rattle.spd_apply.proofs.HalfLaws.{level_of-reduced}
+use Rattle.spd_nodes.proofs.CallerLemmas.{level_of-reduced, after-in, first-is, slot-of, level-plain}
 use Rattle.spd_apply.specs.Leaves.{AreLeavesOf}
 use Rattle.spd_apply.specs.Outcome.{FitEverywhere, FitsEverywhere}
 use Rattle.spd_restrict.specs.Primed.{is_plain_level, TestsNoPrimed}
-use Rattle.spd_restrict.specs.Restricted.{IsSlot}
-use Rattle.spd_restrict.proofs.SlotLaws.{after-in, first-is}
-use Rattle.spd_restrict.proofs.FixedLaws.{slot-of}
 use Rattle.spd_diagram_rows.specs.PlainRoots.{IsPlainRoot}
 
 plain-at : (ds : List ℕ) (l var v : ℕ) → var < length ds → v + 1 < get_or ds var 0 → 2 * levels_of (take var ds) + (get_or ds var 0 - 1) + v ≡ l → is_plain_level ds l ≡ true

@@ -8,14 +8,12 @@ use Rattle.spd_cons_core.specs.declared.key.Entry.{Entry}
 use Rattle.spd_nodes.specs.declared.leaf.Leaf.{Leaf}
 use Rattle.spd_nodes.specs.declared.leaf.Leaf.TheVariants.{Act}
 use Rattle.spd_nodes.specs.declared.forest.StoreFault.{StoreFault}
-use Rattle.spd_nodes.specs.Levels.{slots, slot_of}
+use Rattle.spd_nodes.specs.Levels.{slots, slot_of, IsSlot}
 use Rattle.spd_nodes.specs.Trees.{IsNode, IsFrom, IsReduced}
 use Rattle.spd_model.specs.States.{IsState}
 use Rattle.spd_nodes.specs.States.{Function, point, test_tree, test_trees, function_of, Agree}
 use Rattle.spd_nodes.specs.Shown.{Shown, IsSound, IsWhole, StandsFor, MakesNodesOf, FaultsAt, Faults, MakesOnly, Grows, meaning}
-use Rattle.spd_nodes.proofs.ShownLaws.{Within, makes-within, makes-then, faults-within, stands-for}
-use Rattle.spd_nodes.proofs.StateLaws.{positive-slots, test_tree-agree, IsState-point}
-use Rattle.spd_restrict.specs.Restricted.{IsSlot}
+use Rattle.spd_nodes.proofs.CallerLemmas.{IsState-point, Within, faults-within, makes-then, makes-within, positive-slots, stands-for, test_tree-agree}
 use Rattle.spd_restrict.specs.Chosen.{value_of, function_at, chosen, chosen_from, chosen_below, branch_functions}
 use Rattle.spd_restrict.specs.Replaced.{replaced_at, replaced, MayReplace}
 use Rattle.spd_apply.proofs.HalfLaws.{aligned-from}

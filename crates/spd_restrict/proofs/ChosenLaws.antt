@@ -8,18 +8,15 @@ use Rattle.spd_nodes.specs.Levels.{levels_of, slots, after}
 use Rattle.spd_nodes.specs.Trees.{Tree, IsFrom, IsAt, CanTest, join}
 use Rattle.spd_nodes.specs.declared.forest.StoreFault.{StoreFault}
 use Rattle.spd_nodes.specs.Shown.{Shown, IsSound, Grows, MakesOnly, Faults, KnowsAs, IsViewOf}
-use Rattle.spd_nodes.proofs.ShownLaws.{Within, makes-within, makes-then, faults-within}
-use Rattle.spd_nodes.proofs.StateLaws.{levels_of-slots}
 use Rattle.spd_apply.specs.declared.rule.Below.TheVariants as B
 use Rattle.spd_apply.specs.Halves.{yes_at, no_at}
 use Rattle.spd_apply.specs.Rules.{PlansBelow, PlansTest}
 use Rattle.spd_apply.specs.Views.{lower_of_views, next_yes, next_no}
 use Rattle.spd_apply.proofs.MeetingLaws.{Meets, GoesDown, descends}
-use Rattle.spd_apply.proofs.HalfLaws.{Splits, splits-fits, after-next, after_le, Joins}
+use Rattle.spd_nodes.proofs.CallerLemmas.{after_le, after-next, Joins, after-before, within-no, Within, faults-within, levels_of-slots, makes-then, makes-within}
+use Rattle.spd_apply.proofs.HalfLaws.{Splits, splits-fits}
 use Rattle.spd_apply.proofs.PlanLaws.{Known, next_yes-is, next_no-is, MayMeetHalves, plans-at}
-use Rattle.spd_apply.proofs.Steps.{within-no}
 use Rattle.spd_restrict.specs.Replaced.{replaced, replaced_after, MayReplace, CanReplace, IsWholeFrom}
-use Rattle.spd_restrict.proofs.SlotLaws.{after-before}
 use Rattle.spd_restrict.proofs.ReplacedLaws.{replaced-goes, replaced-itself, whole-from, whole-at, fits-next, joins-replaced_after}
 
 module _ (first value : ℕ) (s : Shown) (o : IsSound s) (f g : Entry) (kf : s.knows f ≡ true) (kg : s.knows g ≡ true) (may : MayReplace first value s.sizes (s.tree f) (s.tree g)) where

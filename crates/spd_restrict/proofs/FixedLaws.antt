@@ -4,17 +4,16 @@ use Rattle.std.specs.Prelude.{nat_lt}
 use Rattle.std.proofs.lemmas.Bool.Decides.{Decides-eqb, nat_tests}
 use Rattle.spd_cons_core.specs.declared.key.Entry.{Entry}
 use Rattle.spd_nodes.specs.declared.leaf.Leaf.{Leaf}
-use Rattle.spd_nodes.specs.Levels.{slots, slot_of, level_at}
+use Rattle.spd_nodes.specs.Levels.{slots, slot_of, level_at, IsSlot}
 use Rattle.spd_nodes.specs.Trees.{Tree, Ends, Tests, value_at, IsFrom, IsReduced}
 use Rattle.spd_model.specs.States.{IsState}
 use Rattle.spd_nodes.specs.States.{point, function_of, Agree}
 use Rattle.spd_nodes.specs.Shown.{Shown, IsSound, IsWhole, meaning}
-use Rattle.spd_nodes.proofs.RankLaws.{rank-view}
-use Rattle.spd_nodes.proofs.StateLaws.{IsState-point}
 use Rattle.spd_apply.specs.declared.rule.Below.TheVariants as B
 use Rattle.spd_apply.specs.Rules.{Making, MayMeet, PlansBelow, PlansTest}
-use Rattle.spd_restrict.specs.Restricted.{restricted, cofactored, IsSlot, IsUpTo, MayRestrict}
-use Rattle.spd_restrict.proofs.CofactorLaws.{Parts, parts, Good, good-cofactored, can-cofactor, value_at-cofactored, up-to-from, up-to-at}
+use Rattle.spd_restrict.specs.Restricted.{restricted, cofactored, IsUpTo, MayRestrict}
+use Rattle.spd_nodes.proofs.CallerLemmas.{Parts, parts, IsState-point, rank-view}
+use Rattle.spd_restrict.proofs.CofactorLaws.{Good, good-cofactored, can-cofactor, value_at-cofactored, up-to-from, up-to-at}
 
 module _ (first end value : ℕ) (s : Shown) (o : IsSound s) (f g : Entry) (kf : s.knows f ≡ true) (may : MayRestrict first end value s.sizes (s.tree f)) where
   abbrev ds : List ℕ

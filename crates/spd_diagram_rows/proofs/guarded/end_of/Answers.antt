@@ -1,4 +1,4 @@
-use Rattle.spd_diagram_rows.proofs.ReadingLaws.{end-test}
+use Rattle.spd_nodes.proofs.CallerLemmas.{end-test}
 use Rattle.spd_diagram_rows.proofs.guarded.end_of.Goals as goal
 
 pub returns : goal.returns

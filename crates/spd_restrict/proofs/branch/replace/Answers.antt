@@ -1,6 +1,6 @@
 use Rattle.std.proofs.Common.{arith, ◌<◌, ◌+◌}
 use Rattle.spd_apply.proofs.WholeLaws.{made-nodes, made-ok, made-fault}
-use Rattle.spd_restrict.proofs.FixedLaws.{slot-of}
+use Rattle.spd_nodes.proofs.CallerLemmas.{slot-of}
 use Rattle.spd_restrict.proofs.BranchLaws.{may-replace, replace-reduced, replace-whole, replace-value}
 use Rattle.spd_restrict.proofs.branch.replace.Goals as goal
 

@@ -1,6 +1,7 @@
 use Rattle.std.proofs.Common.{arith, ◌≤◌, ◌+◌}
 use Rattle.spd_apply.proofs.WholeLaws.{made-nodes, made-ok, made-fault}
-use Rattle.spd_restrict.proofs.FixedLaws.{slot-of, may-whole, fixed-reduced, fixed-whole, fixed-value}
+use Rattle.spd_nodes.proofs.CallerLemmas.{slot-of}
+use Rattle.spd_restrict.proofs.FixedLaws.{may-whole, fixed-reduced, fixed-whole, fixed-value}
 use Rattle.spd_restrict.proofs.fixed.cofactor.Goals as goal
 
 pub make_alone-requires-clause-may : goal.make_alone-requires-clause-may
