@@ -20,7 +20,7 @@ pub use call_count::Steps;
 pub use event::Event;
 pub use key::{Entry, Key};
 pub use mind::{Call, Known, Last, Mind};
-pub use spelling::{start_bucket, words_of};
+pub use spelling::{key_of, start_bucket, words_of};
 pub use steps::{run, step};
 pub use table::{Core, Words};
 

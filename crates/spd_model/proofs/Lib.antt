@@ -1,2 +1,5 @@
+pub mod CallerLemmas
+mod Walks
+mod Steps
 mod Rows
-pub mod TreeLaws
+mod RowsMany

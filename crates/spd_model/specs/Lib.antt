@@ -4,9 +4,12 @@ pub mod Trees
 pub mod Lawful
 pub mod Numbers
 pub mod States
+pub mod Order
 pub mod Chances
 pub mod Backup
 pub mod Ranges
+pub mod Stops
 pub mod Turns
 pub mod Reduced
 pub mod ResultText
+pub mod Options
