@@ -1,3 +1,4 @@
+pub mod CallerLemmas
 pub mod AppliedLaws
 pub mod BelowLaws
 pub mod HalfLaws

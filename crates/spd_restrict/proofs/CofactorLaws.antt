@@ -1,15 +1,13 @@
 -- A tree with one slot at a value has the tree's values there, and is reduced.
 use Rattle.std.proofs.Common.{◌≡◌, ℕ, ◌+◌, ◌-◌, ◌<◌, ◌≤◌, ◌≢◌, ◌⊎◌, inl, inr, ◌==◌, Bool, true, false, cond, List, set, refl, sym, ◌∙◌, subst, arith, true≢false}
 use Rattle.std.specs.Prelude.{nat_lt}
+use Rattle.std.proofs.lemmas.Bool.{ne_eqb}
 use Rattle.std.proofs.lemmas.Bool.Decides.{Decides-eqb, nat_tests}
 use Rattle.spd_model.specs.States.{IsState}
 use Rattle.spd_nodes.specs.Levels.{levels_of, passes, after, IsSlot}
 use Rattle.spd_nodes.specs.Trees.{Tree, Ends, Tests, value_at, IsFrom, IsAt, IsReduced, CanTest, join, IsAtOrPast}
-use Rattle.spd_nodes.proofs.CallerLemmas.{after0, first0, after-next, level_of-reduced, Joins, joins, IsFrom-at, IsFrom-lower, after-in, after-before, first-in, passes-in, passes-before, passes-past, after_above, value_at-join}
+use Rattle.spd_nodes.proofs.CallerLemmas.{Parts, parts, after0, first0, after-next, level_of-reduced, Joins, joins, IsFrom-at, IsFrom-lower, after-in, after-before, first-in, passes-in, passes-before, passes-past, after_above, value_at-join}
 use Rattle.spd_restrict.specs.Restricted.{cofactored, IsUpTo}
-
-no-eq : (a b : ℕ) → a ≢ b → (a == b) ≡ false
-no-eq a b h = grind (arith, nat_tests)
 
 -- the root isn't below a level
 abbrev pub RootFrom : ℕ → Tree → Type 0
@@ -89,7 +87,7 @@ module _ (ds : List ℕ) (slot first end : ℕ) (s : IsSlot ds slot first end) w
             let hi : l < end = grind (arith, nat_tests) in
             let up : l ≤ first + value = u lo hi in
             let differ : l ≢ first + value = λ k. true≢false (sym ((Decides-eqb l (first + value)).1 k) ∙ ec) in
-            let v : (value == l - first) ≡ false = no-eq value (l - first) (λ k. differ (omega arith)) in
+            let v : (value == l - first) ≡ false = ne_eqb value (l - first) (λ k. differ (omega arith)) in
             let e : passes ds (l - 0) (set p slot value) ≡ false = rw z (passes-in ds slot first end l value p s lo hi i ∙ v) in
             rw e (inn (λ j k. omega arith))
         go false false c ea eb ec iy inn =

@@ -11,7 +11,7 @@ use Rattle.spd_nodes.specs.States.{point, function_of, Agree}
 use Rattle.spd_nodes.specs.Shown.{Shown, IsSound, IsWhole, meaning}
 use Rattle.spd_apply.specs.declared.rule.Below.TheVariants as B
 use Rattle.spd_apply.specs.Rules.{Making, PlansBelow, PlansTest}
-use Rattle.spd_nodes.proofs.CallerLemmas.{first0, after-next, Joins, joins, IsFrom-at, IsFrom-lower, Parts, parts, after_above, level-plain, level-primed, rank-view, value_at-join}
+use Rattle.spd_nodes.proofs.CallerLemmas.{IsTreeFor, first0, after-next, Joins, joins, IsFrom-at, IsFrom-lower, Parts, parts, after_above, level-plain, level-primed, rank-view, value_at-join}
 use Rattle.spd_restrict.specs.Primed.{primed, is_plain_level, primed_level, TestsNoPrimed, primed_tree, MayPrime}
 
 -- Levels in the first variable's two slots, and past them. `a` is its number of tests.
@@ -246,9 +246,6 @@ module _ (own : List ℕ) (s : Shown) (o : IsSound s) (f g : Entry) (kf : s.know
   abbrev may-meet : Tree → Tree → Type 0
   may-meet t u = MayPrime own s.sizes t
 
-  pub primes-leaf : (a : Leaf) → s.tree f ≡ Ends a → PlansBelow making may-meet s f g (B.Known f)
-  primes-leaf a e = record { is = rw e refl; goes = kf; smaller = omega arith }
-
   pub primed-at : (l m var v : ℕ) (b : Bool) (y n : Entry) → s.tree f ≡ Tests l (s.tree y) (s.tree n) → IsTestOf own l var b v → m ≡ level_at own var true v → m ≡ primed_level s.sizes l
   primed-at l m var v b y n e t at =
       let p : TestsNoPrimed s.sizes (Tests l (s.tree y) (s.tree n)) = subst (λ t. TestsNoPrimed s.sizes t) e may.plain in
@@ -275,11 +272,8 @@ module _ (own : List ℕ) (s : Shown) (o : IsSound s) (f g : Entry) (kf : s.know
       }
 
 module _ (own : List ℕ) (s : Shown) (o : IsSound s) (f : Entry) (kf : s.knows f ≡ true) (wf : IsWhole s f) (same : own ≡ s.sizes) (plain : TestsNoPrimed s.sizes (s.tree f)) where
-  pub prime-reduced : IsReduced (slots s.sizes) 0 (primed_tree own (s.tree f))
-  prime-reduced = rw same (good-primed s.sizes (s.tree f) (o.reduced f kf) plain).reduced
-
-  pub prime-whole : IsFrom (slots s.sizes) 0 0 (primed_tree own (s.tree f))
-  prime-whole = rw same ((good-primed s.sizes (s.tree f) (o.reduced f kf) plain).whole wf)
-
-  pub prime-value : Agree s.sizes (function_of s.sizes (primed_tree own (s.tree f))) (primed (meaning s f))
-  prime-value = rw same (record { at = λ x y i j. value_at-primed s.sizes (s.tree f) x y y i j j plain })
+  -- what is made is the tree of the function at the next state
+  pub prime-tree : IsTreeFor s (primed_tree own (s.tree f)) (primed (meaning s f))
+  prime-tree =
+      let good : GoodPrimed s.sizes (s.tree f) = good-primed s.sizes (s.tree f) (o.reduced f kf) plain in
+      rw same (record { reduced = good.reduced; whole = good.whole wf; value = record { at = λ x y i j. value_at-primed s.sizes (s.tree f) x y y i j j plain } })

@@ -11,9 +11,7 @@ use Rattle.spd_apply.specs.Applied.{against}
 use Rattle.spd_apply.specs.Halves.{yes_at, no_at, IsNotBefore}
 use Rattle.spd_nodes.proofs.CallerLemmas.{same_level, first0, after_le, after-next, first-past, level_of-reduced, Joins, joins, IsFrom-at, IsFrom-lower, Parts, parts, after-in, after-before, first-is, passes-in, join-differ, join-same, value_at-join}
 use Rattle.std.proofs.lemmas.Bool.{cases_order, ne_eqb}
-use Rattle.spd_apply.proofs.HalfLaws.{Splits, splits-fits, eq-refl}
-use Rattle.spd_apply.proofs.AppliedLaws.{value_at-against}
-use Rattle.spd_apply.proofs.MeetingLaws.{GoesDown, made-whole}
+use Rattle.spd_apply.proofs.CallerLemmas.{GoesDown, Splits, eq-refl, made-whole, splits-fits, value_at-against}
 use Rattle.spd_restrict.specs.Replaced.{replaced_after, down_to, replaced, IsWholeFrom}
 
 -- the leaf of a half is the tree's leaf, where the test holds or doesn't
