@@ -1,6 +1,7 @@
 pub mod CallerLemmas
 pub mod AppliedLaws
 pub mod BelowLaws
+pub mod FitLaws
 pub mod HalfLaws
 pub mod LeavesLaws
 pub mod MapLaws

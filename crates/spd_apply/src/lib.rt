@@ -2,6 +2,7 @@
 #![tactic(auto)]
 
 pub mod binary;
+pub mod conditions;
 pub mod leaf_op;
 pub mod leaves;
 pub mod make;
@@ -14,6 +15,7 @@ pub mod split;
 pub mod unary;
 
 pub use binary::apply;
+pub use conditions::{fits_leaves, maps_leaves};
 pub use leaf_op::{LeafMap, LeafOp};
 pub use leaves::leaves_of;
 pub use make::{make_alone, make_pair};
