@@ -188,8 +188,8 @@ module _ (ds : List ℕ) (stop : ℕ) (making : Making) (d : GoesDown ds stop ma
       go (inr f) (inl g) = next f.1 (inr f.0) (inl (rw (after-next ds l f.1) g))
       go (inl f) (inr g) = next g.1 (inl (rw (after-next ds l g.1) f)) (inr g.0)
 
-  joined : (n : ℕ) → Good n → (l : ℕ) (t u : Tree) → tree_size t + tree_size u ≤ suc n → l < stop → Meets ds l t u → Joins ds l (making t u)
-  joined n good l t u h b m =
+  joins-halves : (n : ℕ) → Good n → (l : ℕ) (t u : Tree) → tree_size t + tree_size u ≤ suc n → l < stop → Meets ds l t u → Joins ds l (making t u)
+  joins-halves n good l t u h b m =
       let c : Children l (making (yes_at l t) (yes_at l u)) (making (no_at l t) (no_at l u)) = children n good l t u h b m in
       subst (λ v. Joins ds l v) (sym (d.is_join l t u b m.left_from m.right_from m.one_at)) (joins ds l _ _ m.level c.yes_reduced c.no_reduced c.can_test)
 
@@ -213,7 +213,7 @@ module _ (ds : List ℕ) (stop : ℕ) (making : Making) (d : GoesDown ds stop ma
 
       go : Meets ds (top_of t u) t u → (top_of t u ≡ stop) ⊎ (top_of t u < stop) ⊎ (stop < top_of t u) → IsReduced ds 0 (making t u) × IsFrom ds 0 e (making t u)
       go m (inl i) = past m (omega arith)
-      go m (inr (inl i)) = whole_from (top_of t u) t u m (joined n good (top_of t u) t u h i m) e f g
+      go m (inr (inl i)) = whole_from (top_of t u) t u m (joins-halves n good (top_of t u) t u h i m) e f g
       go m (inr (inr i)) = past m (omega arith)
 
   step-part : (n : ℕ) → Good n → (t u : Tree) → tree_size t + tree_size u ≤ suc n → IsReduced ds 0 t → IsReduced ds 0 u → (k : ℕ) → k < levels_of ds → k < stop → IsAtOrPast ds k t → IsAtOrPast ds k u
@@ -221,7 +221,7 @@ module _ (ds : List ℕ) (stop : ℕ) (making : Making) (d : GoesDown ds stop ma
   step-part n good t u h r s k i b f g =
       elim (meets-fits ds k t u r s f g) [
         | inl q ↦ (let w : IsReduced ds 0 (making t u) × IsFrom ds 0 (after ds k) (making t u) = step-whole n good t u h r s (after ds k) (d.within k i b) q.0 q.1 in (w.0, inl w.1))
-        | inr m ↦ (let j : Joins ds k (making t u) = joined n good k t u h b m in (j.reduced, j.fits))
+        | inr m ↦ (let j : Joins ds k (making t u) = joins-halves n good k t u h b m in (j.reduced, j.fits))
       ]
 
   good-all : (n : ℕ) → Good n

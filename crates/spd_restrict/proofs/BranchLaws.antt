@@ -14,7 +14,7 @@ use Rattle.spd_model.specs.States.{IsState}
 use Rattle.spd_nodes.specs.States.{Function, point, test_tree, test_trees, function_of, Agree}
 use Rattle.spd_nodes.specs.Shown.{Shown, IsSound, IsWhole, StandsFor, MakesAmong, MakesDiagram, meaning}
 use Rattle.spd_nodes.proofs.CallerLemmas.{IsState-point, IsTreeFor, Within, among-agrees, among-then, diagram-agrees, makes_among-known, stands-for}
-use Rattle.spd_restrict.specs.Chosen.{value_of, function_at, chosen, chosen_from, chosen_below, branch_functions}
+use Rattle.spd_restrict.specs.Chosen.{variable_value, function_at, chosen, chosen_from, chosen_below, branch_functions}
 use Rattle.spd_restrict.specs.Replaced.{replaced_at, replaced, MayReplace}
 use Rattle.spd_apply.proofs.CallerLemmas.{aligned-from}
 use Rattle.spd_restrict.proofs.ReplacedLaws.{value_at-replaced, replaced-whole, whole-from}
@@ -38,7 +38,7 @@ point-plain (d ∷ ds) (x ∷ s) (y ∷ t) (suc var) p q h =
     let e : 2 * suc var + 1 ≡ suc (suc (2 * var + 1)) = omega arith in
     rw e (point-plain ds s t var p.1 q.1 (omega arith))
 
-pub point-value : (sizes s t : List ℕ) (var : ℕ) (primed : Bool) → IsState sizes s → IsState sizes t → var < length sizes → get_or (point s t) (slot_of var primed) 0 ≡ value_of var primed s t
+pub point-value : (sizes s t : List ℕ) (var : ℕ) (primed : Bool) → IsState sizes s → IsState sizes t → var < length sizes → get_or (point s t) (slot_of var primed) 0 ≡ variable_value var primed s t
 point-value sizes s t var true p q h = point-primed sizes s t var p q h
 point-value sizes s t var false p q h = point-plain sizes s t var p q h
 
@@ -49,7 +49,7 @@ in-state (d ∷ ds) [] var p h = absurd p
 in-state (d ∷ ds) (x ∷ s) zero p h = p.0
 in-state (d ∷ ds) (x ∷ s) (suc var) p h = in-state ds s var p.1 (omega arith)
 
-pub value-in : (sizes s t : List ℕ) (var : ℕ) (primed : Bool) → IsState sizes s → IsState sizes t → var < length sizes → value_of var primed s t < get_or sizes var 0
+pub value-in : (sizes s t : List ℕ) (var : ℕ) (primed : Bool) → IsState sizes s → IsState sizes t → var < length sizes → variable_value var primed s t < get_or sizes var 0
 value-in sizes s t var true p q h = in-state sizes t var q h
 value-in sizes s t var false p q h = in-state sizes s var p h
 
@@ -137,16 +137,16 @@ module _ (s : Shown) (o : IsSound s) (var : ℕ) (primed : Bool) (kids : List En
 
   -- the last kid is the branch from the last value on
   last-agree : (v : ℕ) → v + 1 ≡ length kids → Agree s.sizes (meaning s (kid v)) (chosen_from v var primed fs)
-  last-agree v e = record { at = λ x y i j. go x y (value-in s.sizes x y var primed i j h) (nat_lt (value_of var primed x y) v) refl }
+  last-agree v e = record { at = λ x y i j. go x y (value-in s.sizes x y var primed i j h) (nat_lt (variable_value var primed x y) v) refl }
     where
       last : length fs - 1 ≡ v
       last = omega (arith, length-fs)
 
-      go : (x y : List ℕ) → value_of var primed x y < get_or s.sizes var 0 → (b : Bool) → nat_lt (value_of var primed x y) v ≡ b
-          → meaning s (kid v) x y ≡ cond b (function_at fs (length fs - 1) x y) (function_at fs (value_of var primed x y) x y)
+      go : (x y : List ℕ) → variable_value var primed x y < get_or s.sizes var 0 → (b : Bool) → nat_lt (variable_value var primed x y) v ≡ b
+          → meaning s (kid v) x y ≡ cond b (function_at fs (length fs - 1) x y) (function_at fs (variable_value var primed x y) x y)
       go x y i true q = ap (λ (f : Function). f x y) (sym (kid-function v (omega arith)) ∙ ap (function_at fs) (sym last))
       go x y i false q =
-          let w : v ≡ value_of var primed x y = grind (arith, nat_tests) in
+          let w : v ≡ variable_value var primed x y = grind (arith, nat_tests) in
           ap (λ (f : Function). f x y) (sym (kid-function v (omega arith)) ∙ ap (function_at fs) w)
 
   pub last-made : (v : ℕ) → v + 1 ≡ length kids → MakesAmong s s (chosen_from v var primed fs) Branch (Ok (kid v))
@@ -156,7 +156,7 @@ module _ (s : Shown) (o : IsSound s) (var : ℕ) (primed : Bool) (kids : List En
   zero-agree : Agree s.sizes (chosen_from 0 var primed fs) (chosen var primed fs)
   zero-agree = record {
     at = λ x y i j.
-        let a : nat_lt (value_of var primed x y) 0 ≡ false = grind (arith, nat_tests) in
+        let a : nat_lt (variable_value var primed x y) 0 ≡ false = grind (arith, nat_tests) in
         rw a refl;
   }
 
@@ -174,9 +174,9 @@ module _ (s : Shown) (o : IsSound s) (var : ℕ) (primed : Bool) (kids : List En
     step-agree : Agree t.sizes (replaced_at var primed v (meaning t (kid v)) (meaning t rest)) (chosen_from v var primed fs)
     step-agree = record {
       at = λ x y i j.
-          ap (λ (f : Function). cond (value_of var primed x y == v) (f x y) (meaning t rest x y)) kid-meaning
-          ∙ ap (λ (a : Leaf). cond (value_of var primed x y == v) (function_at fs v x y) a) (made.ok.value.at x y i j)
-          ∙ next-pick (value_of var primed x y) v (function_at fs (length fs - 1) x y) (λ n. function_at fs n x y);
+          ap (λ (f : Function). cond (variable_value var primed x y == v) (f x y) (meaning t rest x y)) kid-meaning
+          ∙ ap (λ (a : Leaf). cond (variable_value var primed x y == v) (function_at fs v x y) a) (made.ok.value.at x y i j)
+          ∙ next-pick (variable_value var primed x y) v (function_at fs (length fs - 1) x y) (λ n. function_at fs n x y);
     }
 
     pub step-made : (w : Shown) (r : Result Entry StoreFault) → MakesDiagram t w (replaced_at var primed v (meaning t (kid v)) (meaning t rest)) r → MakesAmong s w (chosen_from v var primed fs) Branch r

@@ -6,11 +6,11 @@ use Rattle.spd_nodes.specs.Trees.{Tree, Ends, Tests, join, IsAtOrPast}
 use Rattle.spd_nodes.specs.States.{Function}
 use Rattle.spd_apply.specs.Applied.{against}
 use Rattle.spd_apply.specs.Halves.{yes_at, no_at, IsNotBefore, IsAligned}
-use Rattle.spd_restrict.specs.Chosen.{value_of}
+use Rattle.spd_restrict.specs.Chosen.{variable_value}
 
 -- one function at one value of a variable, and another one elsewhere
 abbrev pub replaced_at : ℕ → Bool → ℕ → Function → Function → Function
-replaced_at var primed value f g s t = cond (value_of var primed s t == value) (f s t) (g s t)
+replaced_at var primed value f g s t = cond (variable_value var primed s t == value) (f s t) (g s t)
 
 -- at a slot: the second tree, with the first one in its place after so many tests from a level on
 abbrev pub replaced_after : ℕ → ℕ → Tree → Tree → Tree
