@@ -4,3 +4,4 @@ pub mod Reading
 pub mod UniqueLaws
 pub mod FollowLaws
 pub mod TableLaws
+pub mod FrozenLaws
