@@ -12,7 +12,11 @@ use Rattle.spd_model.specs.Reduced.{Diagram, leaf, branch, Subtrees, none, also,
 use Rattle.spd_model.specs.States.{IsState}
 use Rattle.spd_nodes.specs.Trees.{leaf_eq}
 use Rattle.spd_nodes.specs.declared.leaf.Leaf.{Leaf}
-use Rattle.spd_frozen.specs.Frozen.{frozen_of, IsAfter, IsNodeAt, IsFrozen, diagrams, reached, reached_among, leaf_at}
+use Rattle.spd_model.specs.declared.process.Var.{Var}
+use Rattle.spd_model.specs.Lawful.{HasValues}
+use Rattle.spd_model.specs.Process.{Process}
+use Rattle.spd_model.specs.States.{sizes}
+use Rattle.spd_frozen.specs.Frozen.{entry_at, frozen_of, IsAfter, IsNodeAt, IsFrozen, diagrams, reached, reached_among, leaf_at}
 use Rattle.spd_frozen.specs.Fits.{FitsNode, FitsSizes, HasLeaf, HasLeaves}
 use Rattle.spd_frozen.specs.inner.Unique.{AreAmong, HasSubtreesAmong}
 use Rattle.spd_frozen.proofs.Places.{D, is_equal-true, number-is, number-below, number-append, there-or-new, with_node-new}
@@ -270,3 +274,14 @@ module _ (sizes : List ℕ) (f : List ℕ → Leaf) (some : ArePositive sizes) w
   -- and has the function's leaf at each state
   pub frozen-leaf_at : (s : List ℕ) → IsState sizes s → leaf_at (frozen_of sizes f) s ≡ f s
   frozen-leaf_at s h = root-at sizes (λ x. Unit {0}) f some any-leaf s ∙ reached-reduced s [] sizes s 0 f refl refl h
+
+-- the variables of a model have values
+pub sizes-positive : (m : Process) → All HasValues m.vars → ArePositive (sizes m)
+sizes-positive m h = All-map (λ size. 0 < size) (λ (x : Var). length x.values) m.vars (All-weaker HasValues (λ x. 0 < length x.values) (λ x v. v.some) m.vars h)
+
+-- the nodes that building a table's diagram completes are its list
+pub table-list : (all : List (Node Leaf)) (ds : List D) (start : List (Node Leaf)) (sz sz' : List ℕ) (leaves : List Leaf) → all ≡ map (node_of leaf_eq ds) ds
+    → ds ≡ nodes_after leaf_eq (diagrams start) (reduced_from leaf_eq 0 sz (entry_at sz leaves)) → start ≡ [] → sz ≡ sz' → all ≡ frozen_of sz' (entry_at sz' leaves)
+table-list all ds start sz sz' leaves e n empty same =
+    e ∙ ap (λ (l : List D). map (node_of leaf_eq l) l) (n ∙ ap (λ (l : List (Node Leaf)). nodes_after leaf_eq (diagrams l) (reduced_from leaf_eq 0 sz (entry_at sz leaves))) empty)
+    ∙ ap (λ (l : List ℕ). frozen_of l (entry_at l leaves)) same
