@@ -4,6 +4,7 @@ pub mod Trees
 pub mod Lawful
 pub mod Numbers
 pub mod States
+pub mod Order
 pub mod Chances
 pub mod Backup
 pub mod Ranges
@@ -11,3 +12,4 @@ pub mod Stops
 pub mod Turns
 pub mod Reduced
 pub mod ResultText
+pub mod Options

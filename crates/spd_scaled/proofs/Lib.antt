@@ -1,6 +1,7 @@
-pub mod Ring
-pub mod DivisionLaws
-pub mod Magnitude
+pub mod CallerLemmas
 mod TowardZero
-pub mod UnitsLaws
+mod DecimalUnits
+mod DecimalParts
+mod DecimalValue
+mod DecimalText
 mod Rows
