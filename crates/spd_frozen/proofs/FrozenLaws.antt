@@ -12,10 +12,6 @@ use Rattle.spd_model.specs.Reduced.{Diagram, leaf, branch, Subtrees, none, also,
 use Rattle.spd_model.specs.States.{IsState}
 use Rattle.spd_nodes.specs.Trees.{leaf_eq}
 use Rattle.spd_nodes.specs.declared.leaf.Leaf.{Leaf}
-use Rattle.spd_model.specs.declared.process.Var.{Var}
-use Rattle.spd_model.specs.Lawful.{HasValues}
-use Rattle.spd_model.specs.Process.{Process}
-use Rattle.spd_model.specs.States.{sizes}
 use Rattle.spd_frozen.specs.Frozen.{entry_at, frozen_of, IsAfter, IsNodeAt, IsFrozen, diagrams, reached, reached_among, leaf_at}
 use Rattle.spd_frozen.specs.Fits.{FitsNode, FitsSizes, HasLeaf, HasLeaves}
 use Rattle.spd_frozen.specs.inner.Unique.{AreAmong, HasSubtreesAmong}
@@ -23,7 +19,7 @@ use Rattle.spd_frozen.proofs.Places.{D, is_equal-true, number-is, number-below, 
 use Rattle.spd_frozen.proofs.Completion.{AreInOrder, GoesOn, IsInherited, nodes_after-is, nodes_after_all-is, All-nodes_after, All-nodes_after_all, All-nodes_of}
 use Rattle.spd_frozen.proofs.Reading.{nothing, diagrams-nodes}
 use Rattle.spd_frozen.proofs.FollowLaws.{reached_among-at}
-use Rattle.spd_frozen.proofs.TableLaws.{length-below}
+use Rattle.spd_model.proofs.CallerLemmas.Lists.{length-numbers_below, get_or-numbers_below, All-numbers_below}
 
 -- how many subtrees there are
 abbrev count : Subtrees Leaf → ℕ
@@ -78,10 +74,6 @@ choice-suits sizes P var (d ∷ ds) some within long h = go (list_all (is_equal 
             (omega arith, within, n ∙ long, omega arith, AllSuit-from sizes P (suc var) (d ∷ ds) h) in
         rw e is
 
-All-below : (Q : D → Type 0) (F : ℕ → D) (n : ℕ) → ((v : ℕ) → v < n → Q (F v)) → All Q (map F (numbers_below n))
-All-below Q F zero h = All-nil Q
-All-below Q F (suc n) h = subst (All Q) (sym (map-append F (numbers_below n) (n ∷ []))) (All-push Q (map F (numbers_below n)) (F n) (All-below Q F n (λ v q. h v (omega arith))) (h n (omega arith)))
-
 -- all variables have a value
 abbrev pub ArePositive : List ℕ → Type 0
 ArePositive sizes = All (λ size. 0 < size) sizes
@@ -93,12 +85,12 @@ reduced-suits sizes front (size ∷ rest) P var f e n some h =
     let F : ℕ → D = λ v. reduced_from leaf_eq (suc var) rest (λ s. f (v ∷ s)) in
     let first : 0 < size = All-head (λ m. 0 < m) size rest some in
     let others : ArePositive rest = All-tail (λ m. 0 < m) size rest some in
-    let long : length (map F (numbers_below size)) ≡ size = length-map (numbers_below size) F ∙ length-below size in
+    let long : length (map F (numbers_below size)) ≡ size = length-map (numbers_below size) F ∙ length-numbers_below size in
     let at-var : slice_index sizes var ≡ size = ap (λ (l : List ℕ). get_or l var 0) e ∙ get_or_at front size rest 0 var (sym n) in
     let within : var < length sizes = omega (arith, ap length e, length-append front (size ∷ rest), n) in
     choice-suits sizes P var (map F (numbers_below size)) (omega (arith, long, first)) within (long ∙ sym at-var)
-      (All-below (Suits sizes P (suc var)) F size (λ v q. reduced-suits sizes (front ++ size ∷ []) rest P (suc var) (λ s. f (v ∷ s)) (e ∙ sym (append_assoc front (size ∷ []) rest))
-        (omega (arith, n, length-append front (size ∷ []))) others (λ s k. h (v ∷ s) (q, k))))
+      (All-map (Suits sizes P (suc var)) F (numbers_below size) (All-numbers_below (λ v. Suits sizes P (suc var) (F v)) size (λ v q. reduced-suits sizes (front ++ size ∷ []) rest P (suc var) (λ s. f (v ∷ s)) (e ∙ sym (append_assoc front (size ∷ []) rest))
+        (omega (arith, n, length-append front (size ∷ []))) others (λ s k. h (v ∷ s) (q, k)))))
 
 -- subtrees stand before their diagram
 order-at : (before ds : List D) (i : ℕ) → AreInOrder before ds → i < length ds → HasSubtreesAmong (before ++ take i ds) (get_or ds i nothing)
@@ -204,14 +196,6 @@ reached-choice s var v (d ∷ ds) e h = go (list_all (is_equal leaf_eq d) ds) re
     go true all = rw all (ap (reached s) (sym (equal-at d ds v all h)))
     go false all = rw all (ap (λ (w : ℕ). reached_among s w (subtrees_of (d ∷ ds))) e ∙ reached_among-at s v (d ∷ ds) h)
 
-below-at : (n v : ℕ) → v < n → get_or (numbers_below n) v 0 ≡ v
-below-at zero v h = absurd (omega arith)
-below-at (suc n) v h = elim (leb_tells n v) [
-    | inl out ↦ (let e : v ≡ n = omega (arith, out.1) in
-        rw e (get_or_push (numbers_below n) n 0 n (length-below n)))
-    | inr in' ↦ get_or_append_left (numbers_below n) (n ∷ []) 0 v (omega (arith, in'.1, length-below n)) ∙ below-at n v in'.1
-  ]
-
 -- the reduced diagram of a function has the function's leaf at each state
 reached-reduced : (s front rest t : List ℕ) (var : ℕ) (f : List ℕ → Leaf) → s ≡ front ++ t → var ≡ length front → IsState rest t → reached s (reduced_from leaf_eq var rest f) ≡ f t
 reached-reduced s front [] [] var f e n h = refl
@@ -220,8 +204,8 @@ reached-reduced s front (size ∷ rest) [] var f e n h = absurd h
 reached-reduced s front (size ∷ rest) (v ∷ t) var f e n h =
     let F : ℕ → D = λ w. reduced_from leaf_eq (suc var) rest (λ u. f (w ∷ u)) in
     let at-var : slice_index s var ≡ v = ap (λ (l : List ℕ). get_or l var 0) e ∙ get_or_at front v t 0 var (sym n) in
-    let within : v < length (map F (numbers_below size)) = omega (arith, length-map (numbers_below size) F, length-below size, h.0) in
-    let kid : get_or (map F (numbers_below size)) v nothing ≡ F v = get_or-map F (numbers_below size) v 0 nothing (omega (arith, length-below size, h.0)) ∙ ap F (below-at size v h.0) in
+    let within : v < length (map F (numbers_below size)) = omega (arith, length-map (numbers_below size) F, length-numbers_below size, h.0) in
+    let kid : get_or (map F (numbers_below size)) v nothing ≡ F v = get_or-map F (numbers_below size) v 0 nothing (omega (arith, length-numbers_below size, h.0)) ∙ ap F (get_or-numbers_below size v h.0) in
     reached-choice s var v (map F (numbers_below size)) at-var within ∙ ap (reached s) kid
     ∙ reached-reduced s (front ++ v ∷ []) rest t (suc var) (λ u. f (v ∷ u)) (e ∙ sym (append_assoc front (v ∷ []) t)) (omega (arith, n, length-append front (v ∷ []))) h.1
 
@@ -274,10 +258,6 @@ module _ (sizes : List ℕ) (f : List ℕ → Leaf) (some : ArePositive sizes) w
   -- and has the function's leaf at each state
   pub frozen-leaf_at : (s : List ℕ) → IsState sizes s → leaf_at (frozen_of sizes f) s ≡ f s
   frozen-leaf_at s h = root-at sizes (λ x. Unit {0}) f some any-leaf s ∙ reached-reduced s [] sizes s 0 f refl refl h
-
--- the variables of a model have values
-pub sizes-positive : (m : Process) → All HasValues m.vars → ArePositive (sizes m)
-sizes-positive m h = All-map (λ size. 0 < size) (λ (x : Var). length x.values) m.vars (All-weaker HasValues (λ x. 0 < length x.values) (λ x v. v.some) m.vars h)
 
 -- the nodes that building a table's diagram completes are its list
 pub table-list : (all : List (Node Leaf)) (ds : List D) (start : List (Node Leaf)) (sz sz' : List ℕ) (leaves : List Leaf) → all ≡ map (node_of leaf_eq ds) ds

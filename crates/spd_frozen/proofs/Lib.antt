@@ -5,3 +5,5 @@ pub mod UniqueLaws
 pub mod FollowLaws
 pub mod TableLaws
 pub mod FrozenLaws
+pub mod ToldLaws
+pub mod CallerLemmas

@@ -5,6 +5,7 @@ use Rattle.std.specs.List.{list_all}
 use Rattle.std.proofs.lemmas.List.{map-append, get_or-take, get_or-drop, length-map, length-take, length-drop}
 use Rattle.std.proofs.Math.Nat.{mul-le-mul_right}
 use Rattle.std.proofs.lemmas.List.Elements.{All-head, All-tail, All-cons, All-nil}
+use Rattle.spd_model.proofs.CallerLemmas.StateOrder.{rank_below}
 use Rattle.spd_model.specs.Numbers.{numbers_below}
 use Rattle.spd_model.specs.Reduced.{Diagram, leaf, branch, Subtrees, none, also, subtrees_of, Node, is_equal, choice_of, reduced_from, nodes_after, nodes_after_all, node_number}
 use Rattle.spd_model.specs.States.{state_count, rank, IsState}
@@ -27,10 +28,6 @@ map-below f g (suc n) h =
     let last : f n ≡ g n = h n (omega arith) in
     map-append f (numbers_below n) (n ∷ []) ∙ ap (λ l. l ++ f n ∷ []) before ∙ ap (λ x. map g (numbers_below n) ++ x ∷ []) last ∙ sym (map-append g (numbers_below n) (n ∷ []))
 
-pub length-below : (n : ℕ) → length (numbers_below n) ≡ n
-length-below zero = refl
-length-below (suc n) = omega (arith, length-append (numbers_below n) (n ∷ []), length-below n)
-
 -- functions that agree at all states have one reduced diagram
 pub reduced-agree : {X : Type 0} (same : X → X → Bool) (var : ℕ) (sizes : List ℕ) (f g : List ℕ → X) → ((s : List ℕ) → IsState sizes s → f s ≡ g s)
     → reduced_from same var sizes f ≡ reduced_from same var sizes g
@@ -39,25 +36,12 @@ reduced-agree same var (size ∷ sizes) f g h =
     ap (choice_of same var) (map-below (λ v. reduced_from same (suc var) sizes (λ s. f (v ∷ s))) (λ v. reduced_from same (suc var) sizes (λ s. g (v ∷ s))) size
       (λ v q. reduced-agree same (suc var) sizes (λ s. f (v ∷ s)) (λ s. g (v ∷ s)) (λ s k. h (v ∷ s) (q, k))))
 
--- the place of a state is below the number of states
-pub rank-below : (sizes s : List ℕ) → IsState sizes s → rank sizes s < state_count sizes
-rank-below [] [] h = omega arith
-rank-below [] (v ∷ s) h = absurd h
-rank-below (size ∷ sizes) [] h = absurd h
-rank-below (size ∷ sizes) (v ∷ s) h =
-    let v_in : v < size = h.0 in
-    let r = rank-below sizes s h.1 in
-    row v size (rank sizes s) (state_count sizes) v_in r
-  where
-    row : (v n r m : ℕ) → v < n → r < m → v * m + r < n * m
-    row v n r m h k = grind arith
-
 -- a part of a table is the table of what follows a value
 pub part-is : (var size : ℕ) (sizes : List ℕ) (leaves : List Leaf) (v block : ℕ) → block ≡ state_count sizes
     → reduced_from leaf_eq (var + 1) sizes (entry_at sizes (slice_range leaves (v * block) ((v + 1) * block))) ≡ subdiagram var size sizes leaves v
 part-is var size sizes leaves v block e =
     rw (add-one var) (reduced-agree leaf_eq (suc var) sizes (entry_at sizes (slice_range leaves (v * block) ((v + 1) * block))) (λ s. entry_at (size ∷ sizes) leaves (v ∷ s))
-      (λ s h. (let below : rank sizes s < (v + 1) * block - v * block = omega (arith, rank-below sizes s h) in
+      (λ s h. (let below : rank sizes s < (v + 1) * block - v * block = omega (arith, rank_below sizes s h) in
         get_or-take ((v + 1) * block - v * block) (drop (v * block) leaves) (rank sizes s) (Num (pos 0)) below
         ∙ get_or-drop (v * block) leaves (rank sizes s) (Num (pos 0))
         ∙ ap (λ (b : ℕ). get_or leaves (v * b + rank sizes s) (Num (pos 0))) e)))

@@ -3,6 +3,7 @@ use Rattle.std.specs.Prelude.{All, slice_range}
 use Rattle.std.proofs.lemmas.List.{length-map, get_or_default}
 use Rattle.std.proofs.lemmas.List.Elements.{All-head, All-tail}
 use Rattle.std.proofs.lemmas.Result.{IfOk-weaker}
+use Rattle.spd_model.proofs.CallerLemmas.Lists.{length-numbers_below}
 use Rattle.spd_model.specs.declared.process.Var.{Var}
 use Rattle.spd_model.specs.Numbers.{numbers_below}
 use Rattle.spd_model.specs.Reduced.{Diagram, branch, Node, subtrees_of, reduced_from, choice_of, with_node, nodes_after, nodes_after_all, node_number}
@@ -14,7 +15,7 @@ use Rattle.spd_frozen.specs.inner.Unique.{IsClosed, subdiagram, sizes_of}
 use Rattle.spd_frozen.proofs.Places.{D}
 use Rattle.spd_frozen.proofs.Completion.{nodes_after_all-is}
 use Rattle.spd_frozen.proofs.Reading.{length-diagrams_after}
-use Rattle.spd_frozen.proofs.TableLaws.{length-below, length-part, part-is, kids-more, chooses, choice-is}
+use Rattle.spd_frozen.proofs.TableLaws.{length-part, part-is, kids-more, chooses, choice-is}
 use Rattle.spd_frozen.proofs.table.+table.Goals as goal
 
 -- all numbers of a list are its first one
@@ -61,7 +62,7 @@ root-are_equal-requires t c =
     let sub : ℕ → D = subdiagram c.args.var c.len.result (sizes_of rest) c.args.leaves.now in
     let h = c.in_ok-kids-in-Some.ensures in
     let ch = chooses c.args.var (diagrams c.args.table.now) (diagrams c.kids.new.table) c.in_ok-kids-in-Some.kids.items (map sub (numbers_below c.len.result)) c.requires.closed h.0 h.1
-          (omega (arith, length-map (numbers_below c.len.result) sub, length-below c.len.result, some, c.len.ensures)) in
+          (omega (arith, length-map (numbers_below c.len.result) sub, length-numbers_below c.len.result, some, c.len.ensures)) in
     omega (arith, ch.some, ap length c.deref.ensures.value)
 
 pub root-index-requires : goal.root-index-requires
@@ -73,7 +74,7 @@ root-index-requires t c =
     let sub : ℕ → D = subdiagram c.args.var c.len.result (sizes_of rest) c.args.leaves.now in
     let h = c.in_ok-kids-in-Some.ensures in
     let ch = chooses c.args.var (diagrams c.args.table.now) (diagrams c.kids.new.table) c.in_ok-kids-in-Some.kids.items (map sub (numbers_below c.len.result)) c.requires.closed h.0 h.1
-          (omega (arith, length-map (numbers_below c.len.result) sub, length-below c.len.result, some, c.len.ensures)) in
+          (omega (arith, length-map (numbers_below c.len.result) sub, length-numbers_below c.len.result, some, c.len.ensures)) in
     omega (arith, ch.some)
 
 pub root-branch-table-requires : goal.root-branch-table-requires
@@ -85,7 +86,7 @@ root-branch-table-requires t c =
     let sub : ℕ → D = subdiagram c.args.var c.len.result (sizes_of rest) c.args.leaves.now in
     let h = c.in_ok-kids-in-Some.ensures in
     let ch = chooses c.args.var (diagrams c.args.table.now) (diagrams c.kids.new.table) c.in_ok-kids-in-Some.kids.items (map sub (numbers_below c.len.result)) c.requires.closed h.0 h.1
-          (omega (arith, length-map (numbers_below c.len.result) sub, length-below c.len.result, some, c.len.ensures)) in
+          (omega (arith, length-map (numbers_below c.len.result) sub, length-numbers_below c.len.result, some, c.len.ensures)) in
     subst (λ (n : ℕ). All (λ k. k < n) c.in_ok-kids-in-Some.kids.items) (length-diagrams_after [] c.kids.new.table ∙ omega arith) ch.below
 
 pub root-returns-then-are_equal : goal.root-returns-then-are_equal
@@ -97,7 +98,7 @@ root-returns-then-are_equal t c =
     let sub : ℕ → D = subdiagram c.args.var c.len.result (sizes_of rest) c.args.leaves.now in
     let h = c.in_ok-kids-in-Some.ensures in
     let ch = chooses c.args.var (diagrams c.args.table.now) (diagrams c.kids.new.table) c.in_ok-kids-in-Some.kids.items (map sub (numbers_below c.len.result)) c.requires.closed h.0 h.1
-          (omega (arith, length-map (numbers_below c.len.result) sub, length-below c.len.result, some, c.len.ensures)) in
+          (omega (arith, length-map (numbers_below c.len.result) sub, length-numbers_below c.len.result, some, c.len.ensures)) in
     let whole = choice-is c.args.var c.args.vars.now first rest c.len.result c.args.leaves.now c.in-Some.ensures.cases.0 c.len.ensures in
     let all : AllFirst c.in_ok-kids-in-Some.kids.items = subst AllFirst c.deref.ensures.value (c.are_equal.ensures.0 c.if-are_equal.true) in
     let same = ch.equal all in
@@ -115,7 +116,7 @@ root-returns-else-are_equal t c =
     let sub : ℕ → D = subdiagram c.args.var c.len.result (sizes_of rest) c.args.leaves.now in
     let h = c.in_ok-kids-in-Some.ensures in
     let ch = chooses c.args.var (diagrams c.args.table.now) (diagrams c.kids.new.table) c.in_ok-kids-in-Some.kids.items (map sub (numbers_below c.len.result)) c.requires.closed h.0 h.1
-          (omega (arith, length-map (numbers_below c.len.result) sub, length-below c.len.result, some, c.len.ensures)) in
+          (omega (arith, length-map (numbers_below c.len.result) sub, length-numbers_below c.len.result, some, c.len.ensures)) in
     let whole = choice-is c.args.var c.args.vars.now first rest c.len.result c.args.leaves.now c.in-Some.ensures.cases.0 c.len.ensures in
     let branched = ch.differ (λ all. true≢false (sym (c.are_equal.ensures.1 (subst AllFirst (sym c.deref.ensures.value) all)) ∙ c.if-are_equal.false)) in
     let old = diagrams c.args.table.now in
