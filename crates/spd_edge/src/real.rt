@@ -88,7 +88,10 @@ fn open_to_read<R: Files + Input>(rt: &R, name: &[u8]) -> io::Result<Stream<R::F
 
 /// Opens the file of a name to write it from its front, or standard output for `-`. A file that isn't
 /// there is made, and one that is loses what it held.
-fn open_to_write<R: Files + Print + Copy>(rt: &R, name: &[u8]) -> io::Result<Stream<R::File, Printed<R>>> {
+fn open_to_write<R: Files + Print + Copy>(
+    rt: &R,
+    name: &[u8],
+) -> io::Result<Stream<R::File, Printed<R>>> {
     if name == b"-".as_slice() {
         return Ok(Stream::Standard(Printed { rt: *rt }));
     }
