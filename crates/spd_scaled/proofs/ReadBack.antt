@@ -11,7 +11,7 @@ use Rattle.spd_scaled.specs.declared.decimal.Decimal.{Decimal}
 use Rattle.spd_scaled.specs.Scaled.{IsWithin}
 use Rattle.spd_scaled.specs.Units.{last_digits, sign_text, units_text}
 use Rattle.spd_scaled.specs.Decimal.{Sign, bare, minus, sign_bytes, is_minus, Numeral, numeral_text, places_of, with_sign, IsLowest, AreUnits, IsScaled, Writes}
-use Rattle.spd_scaled.proofs.UnitsLaws.{length-last_digits, AllDigits-last_digits, digits_value-last_digits}
+use Rattle.spd_scaled.proofs.CallerLemmas.UnitsLaws.{length-last_digits, AllDigits-last_digits, digits_value-last_digits}
 use Rattle.spd_scaled.proofs.DecimalParts.{AllDigits-append, digits_value_after-append}
 use Rattle.spd_scaled.proofs.DecimalValue.{lowest_of-found, lowest_of-told}
 
