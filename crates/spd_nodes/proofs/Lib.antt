@@ -1,3 +1,4 @@
+pub mod CallerLemmas
 pub mod KeyLaws
 pub mod LayoutLaws
 pub mod MadeLaws
