@@ -11,3 +11,5 @@ pub mod StoreLaws
 pub mod TestLaws
 pub mod TreeLaws
 pub mod ValueLaws
+pub mod KnownTreeLaws
+pub mod GroveLaws
