@@ -1,2 +1,3 @@
 mod Rows
+mod RowsMany
 pub mod TreeLaws

@@ -1,7 +1,8 @@
 -- The definitions, computed on small models by hand.
-use Rattle.std.proofs.Common.{◌≡◌, ℕ, true, false, List, [], ◌∷◌, ◌++◌, ℤ, pos, negsuc, codes, decimal, flat_map, refl, if◌then◌else◌, ◌==◌, slice_index}
+use Rattle.std.proofs.Common.{◌≡◌, ℕ, true, false, List, [], ◌∷◌, ◌++◌, ℤ, pos, negsuc, codes, decimal, flat_map, refl, if◌then◌else◌, ◌==◌, slice_index, None}
 use Rattle.std.specs.Ordering.{int_eq}
-use Rattle.spd_model.specs.Reduced.{leaf, branch, also, none, reduced, nodes_of}
+use Rattle.spd_model.specs.Reduced.{Node, reduced, listed}
+use Rattle.hex.specs.Hex.{encode_with}
 use Rattle.spd_scaled.specs.Scaled.{floor_div, ceil_div}
 use Rattle.spd_model.specs.declared.tree.Tree.{Tree, Leaf, Branch}
 use Rattle.spd_model.specs.declared.tree.Tree.TheBlock.{shape-the_row-Tree-0, hidden-the_row-Tree-0}
@@ -43,7 +44,13 @@ keeping = record {
   reward = Branch 0 false (one_leaf ∷ zero_leaf ∷ []) ∷ [];
   discount = 500000;
   tolerance = pos 100000000;
+  horizon = None;
 }
+
+-- the SHA-256 of a file that describes this process
+abbrev pub digest : List ℕ
+digest =
+    161 ∷ 225 ∷ 7 ∷ 39 ∷ 35 ∷ 121 ∷ 171 ∷ 140 ∷ 107 ∷ 235 ∷ 244 ∷ 189 ∷ 120 ∷ 192 ∷ 200 ∷ 123 ∷ 140 ∷ 187 ∷ 159 ∷ 54 ∷ 15 ∷ 53 ∷ 97 ∷ 52 ∷ 14 ∷ 7 ∷ 111 ∷ 129 ∷ 12 ∷ 154 ∷ 217 ∷ 163 ∷ []
 
 states-keeping : states (sizes keeping) ≡ (0 ∷ []) ∷ (1 ∷ []) ∷ []
 states-keeping = refl
@@ -57,8 +64,9 @@ unfolding shape-the_row-Tree-0 hidden-the_row-Tree-0 denote.Hole.Carrier.hidden
 turn_1-keeping = refl
 
 -- the whole result text
-text-keeping : result_text keeping 10000 (pos 0)
-    ≡ line (codes "spd result 1" ∷ [])
+text-keeping : result_text digest keeping 10000 (pos 0)
+    ≡ line (codes "spd result 2" ∷ [])
+    ++ line (codes "model" ∷ codes "a1e107272379ab8c6bebf4bd78c0c87b8cbb9f360f3561340e076f810c9ad9a3" ∷ [])
     ++ line (codes "status" ∷ codes "done" ∷ [])
     ++ line (codes "turn" ∷ decimal 5 ∷ [])
     ++ line (codes "residual" ∷ units (pos 15625000) ∷ [])
@@ -71,15 +79,15 @@ text-keeping : result_text keeping 10000 (pos 0)
     ∷ (decimal 2 ∷ codes "branch" ∷ codes "x" ∷ decimal 0 ∷ decimal 1 ∷ []) ∷ []))
     ++ (line (codes "policy" ∷ decimal 1 ∷ []) ++ flat_map line ((decimal 0 ∷ codes "leaf" ∷ codes "stay" ∷ []) ∷ []))
     ++ line (codes "end" ∷ [])
-unfolding shape-the_row-Tree-0 hidden-the_row-Tree-0 denote.Hole.Carrier.hidden
+unfolding shape-the_row-Tree-0 hidden-the_row-Tree-0 denote.Hole.Carrier.hidden encode_with
 text-keeping = refl
 
 -- with a second action that does the same, the policy and the residual's place name the first of the two
 abbrev holding : Process
 holding = record keeping { actions = stay ∷ record stay { name = codes "hold" } ∷ [] }
 
-text-holding : result_text holding 10000 (pos 0) ≡ result_text keeping 10000 (pos 0)
-unfolding shape-the_row-Tree-0 hidden-the_row-Tree-0 denote.Hole.Carrier.hidden
+text-holding : result_text digest holding 10000 (pos 0) ≡ result_text digest keeping 10000 (pos 0)
+unfolding shape-the_row-Tree-0 hidden-the_row-Tree-0 denote.Hole.Carrier.hidden encode_with
 text-holding = refl
 
 -- a die whose next value is one, two or three, with nearly equal probabilities whatever it was; a reward of 1 at one
@@ -100,12 +108,13 @@ mixing = record {
   reward = Branch 0 false (one_leaf ∷ zero_leaf ∷ zero_leaf ∷ []) ∷ [];
   discount = 500000;
   tolerance = pos 100000000;
+  horizon = None;
 }
 
 abbrev start_mixing : List ℕ → ℤ
 start_mixing = at (sizes mixing) (pos 1000000000 ∷ pos 0 ∷ pos 0 ∷ [])
 
-expectation-mixing : (expectation floor_div mixing mix start_mixing (0 ∷ []) ≡ pos 333333333) × (expectation ceil_div mixing mix start_mixing (0 ∷ []) ≡ pos 333333334)
+expectation-mixing : (expectation floor_div mixing start_mixing mix (0 ∷ []) ≡ pos 333333333) × (expectation ceil_div mixing start_mixing mix (0 ∷ []) ≡ pos 333333334)
 unfolding shape-the_row-Tree-0 hidden-the_row-Tree-0 denote.Hole.Carrier.hidden
 expectation-mixing = (refl, refl)
 
@@ -118,8 +127,9 @@ residual-mixing : residual_of mixing start_mixing ≡ pos 166666667
 unfolding shape-the_row-Tree-0 hidden-the_row-Tree-0 denote.Hole.Carrier.hidden
 residual-mixing = refl
 
-text-mixing : result_text mixing 10000 (pos 0)
-    ≡ line (codes "spd result 1" ∷ [])
+text-mixing : result_text digest mixing 10000 (pos 0)
+    ≡ line (codes "spd result 2" ∷ [])
+    ++ line (codes "model" ∷ codes "a1e107272379ab8c6bebf4bd78c0c87b8cbb9f360f3561340e076f810c9ad9a3" ∷ [])
     ++ line (codes "status" ∷ codes "done" ∷ [])
     ++ line (codes "turn" ∷ decimal 3 ∷ [])
     ++ line (codes "residual" ∷ units (pos 20833334) ∷ [])
@@ -132,7 +142,7 @@ text-mixing : result_text mixing 10000 (pos 0)
     ∷ (decimal 2 ∷ codes "branch" ∷ codes "die" ∷ decimal 0 ∷ decimal 1 ∷ decimal 1 ∷ []) ∷ []))
     ++ (line (codes "policy" ∷ decimal 1 ∷ []) ++ flat_map line ((decimal 0 ∷ codes "leaf" ∷ codes "mix" ∷ []) ∷ []))
     ++ line (codes "end" ∷ [])
-unfolding shape-the_row-Tree-0 hidden-the_row-Tree-0 denote.Hole.Carrier.hidden
+unfolding shape-the_row-Tree-0 hidden-the_row-Tree-0 denote.Hole.Carrier.hidden encode_with
 text-mixing = refl
 
 -- ranges of one number each: with span 0 they stay apart, with span 1 the first two become one; -0.5 is rounded down to -1
@@ -160,6 +170,7 @@ rolling = record {
   reward = Branch 0 false (zero_leaf ∷ Leaf (pos 400000000000) ∷ one_leaf ∷ []) ∷ [];
   discount = 500000;
   tolerance = pos 100000000;
+  horizon = None;
 }
 
 turn_1-rolling : turn rolling (pos 1000000000) 1 ≡ pos 300000000 ∷ pos 300000000 ∷ pos 1500000000 ∷ []
@@ -175,6 +186,6 @@ unfolding shape-the_row-Tree-0 hidden-the_row-Tree-0 denote.Hole.Carrier.hidden
 residual-rolling = refl
 
 -- a branch on two variables is left out where its subtrees are equal, and equal subtrees are one node
-nodes-two : nodes_of int_eq (reduced int_eq (2 ∷ 2 ∷ []) (λ s. pos (slice_index s 1)))
-    ≡ leaf (pos 0) ∷ leaf (pos 1) ∷ branch 1 (also (leaf (pos 0)) (also (leaf (pos 1)) none)) ∷ []
-nodes-two = refl
+listed-two : listed int_eq (reduced int_eq (2 ∷ 2 ∷ []) (λ s. pos (slice_index s 1)))
+    ≡ Node.leaf (pos 0) ∷ Node.leaf (pos 1) ∷ Node.branch 1 (0 ∷ 1 ∷ []) ∷ []
+listed-two = refl

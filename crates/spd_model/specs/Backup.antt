@@ -5,7 +5,7 @@ use Rattle.spd_model.specs.declared.process.Action.{Action}
 use Rattle.spd_model.specs.Process.{Process}
 use Rattle.spd_model.specs.Numbers.{sum_below, greatest, first_place}
 use Rattle.spd_model.specs.States.{sizes}
-use Rattle.spd_model.specs.Chances.{one, probability, reward_of}
+use Rattle.spd_model.specs.Chances.{one, discount_one, probability, reward_of}
 
 -- a quotient, rounded: `floor_div` or `ceil_div`
 abbrev pub Rounding : Type 0
@@ -20,19 +20,20 @@ expected_by round size chance w (suc i) rest =
     round (sum_below (size i) (λ v. chance i v rest *ℤ expected_by round size chance w i (v ∷ rest))) one
 
 -- the rounded expectation of w after action a at s, over all variables
-abbrev pub expectation : Rounding → Process → Action → (List ℕ → ℤ) → List ℕ → ℤ
-expectation round m a w s = expected_by round (slice_index (sizes m)) (λ i v rest. probability m a i s v) w (length m.vars) []
+abbrev pub expectation : Rounding → Process → (List ℕ → ℤ) → Action → List ℕ → ℤ
+expectation round m w a s = expected_by round (slice_index (sizes m)) (probability m a s) w (length m.vars) []
 
--- the return of action a at s where w follows: its reward plus the discounted expectation, both rounded the same way
-abbrev pub return_of : Rounding → Process → (List ℕ → ℤ) → Action → List ℕ → ℤ
-return_of round m w a s = reward_of m a s +ℤ round (pos m.discount *ℤ expectation round m a w s) (pos 1000000)
+-- The return of action a at s: its reward plus the discounted expectation of what follows, both rounded the same way. `expected`
+-- is that expectation, by action and state.
+abbrev pub return_of : Rounding → Process → (Action → List ℕ → ℤ) → Action → List ℕ → ℤ
+return_of round m expected a s = reward_of m a s +ℤ round (pos m.discount *ℤ expected a s) (pos discount_one)
 
--- the bounds of that return, below and above
+-- the bounds of that return where w follows, below and above
 abbrev pub low_of : Process → (List ℕ → ℤ) → Action → List ℕ → ℤ
-low_of = return_of floor_div
+low_of m w = return_of floor_div m (expectation floor_div m w)
 
 abbrev pub high_of : Process → (List ℕ → ℤ) → Action → List ℕ → ℤ
-high_of = return_of ceil_div
+high_of m w = return_of ceil_div m (expectation ceil_div m w)
 
 -- the greatest lower and the greatest upper bound over all actions
 abbrev pub best_low : Process → (List ℕ → ℤ) → List ℕ → ℤ

@@ -1,5 +1,5 @@
 -- What every model keeps: the limits, and that its names, numbers and trees fit together.
-use Rattle.std.specs.Prelude.{ℕ, ◌-◌, ◌%◌, ◌^◌, ◌<◌, ◌≤◌, ◌≡◌, ◌≢◌, true, false, IsTrue, List, [], length, map, pos, ◌≤ℤ◌, unsigned_abs, slice_index, slice_index_or, sum_by, All, AllPairs}
+use Rattle.std.specs.Prelude.{ℕ, ◌-◌, ◌%◌, ◌^◌, ◌<◌, ◌≤◌, ◌≡◌, ◌≢◌, true, false, IsTrue, List, [], length, map, pos, ◌≤ℤ◌, unsigned_abs, slice_index, slice_index_or, sum_by, All, AllPairs, IfSome}
 use Rattle.spd_model.specs.declared.tree.Tree.{Tree}
 use Rattle.spd_model.specs.declared.process.Var.{Var}
 use Rattle.spd_model.specs.declared.process.Action.{Action}
@@ -27,10 +27,10 @@ Fits m (number x) = unsigned_abs x ≤ 10 ^ 30
 Fits m (choice var primed kids) = (var < length m.vars) × (kids ≡ slice_index (sizes m) var)
 Fits m missing = ⊥
 
--- in a table of variable i no number is negative, and only i's next value is followed
+-- in a table of variable i no number is negative, and of next values only those of i and of later variables are followed
 abbrev pub FitsTable : ℕ → Part → Type 0
 FitsTable i (number x) = pos 0 ≤ℤ x
-FitsTable i (choice var primed kids) = primed ≡ true → var ≡ i
+FitsTable i (choice var primed kids) = primed ≡ true → i ≤ var
 FitsTable i missing = ⊥
 
 -- in a reward or a cost each number is a whole number of 10^-9, and no next value is followed
@@ -85,9 +85,10 @@ pub record IsLawful (m : Process) : Type 0 where
   pub discount : m.discount ≤ 999999
   pub tolerance_low : pos 0 ≤ℤ m.tolerance
   pub tolerance_high : m.tolerance ≤ℤ pos (10 ^ 30)
+  pub horizon : IfSome m.horizon (λ steps. steps ≤ 1000)
 
 abbrev pub process_of : Inside → Process
-process_of m = record { vars = m.vars; dds = m.dds; actions = m.actions; reward = m.reward; discount = m.discount; tolerance = m.tolerance }
+process_of m = record { vars = m.vars; dds = m.dds; actions = m.actions; reward = m.reward; discount = m.discount; tolerance = m.tolerance; horizon = m.horizon }
 
 abbrev pub IsKept : Inside → Type 0
 IsKept m = IsLawful (process_of m)

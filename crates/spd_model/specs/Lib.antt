@@ -7,6 +7,7 @@ pub mod States
 pub mod Chances
 pub mod Backup
 pub mod Ranges
+pub mod Stops
 pub mod Turns
 pub mod Reduced
 pub mod ResultText

@@ -7,7 +7,7 @@ use Rattle.std.specs.Char.{is_ascii_alphabetic, is_ascii_alphanumeric}
 abbrev pub reserved_words : List (List ℕ)
 reserved_words =
     codes "variables" ∷ codes "dd" ∷ codes "enddd" ∷ codes "action" ∷ codes "endaction" ∷ codes "cost" ∷ codes "reward"
-    ∷ codes "discount" ∷ codes "tolerance" ∷ []
+    ∷ codes "discount" ∷ codes "tolerance" ∷ codes "horizon" ∷ []
 
 -- a letter or `_`, then letters, digits, `_` and `-`
 abbrev pub has_name_form : List ℕ → Bool

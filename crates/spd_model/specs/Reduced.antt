@@ -71,3 +71,17 @@ node_number same nodes d = unwrap_or (position (is_equal same d) nodes) 0
 abbrev pub node_numbers : {X : Type 0} → (X → X → Bool) → List (Diagram X) → Subtrees X → List ℕ
 node_numbers same nodes none = []
 node_numbers same nodes (also d ds) = node_number same nodes d ∷ node_numbers same nodes ds
+
+-- A node of a diagram that is written as a list: a leaf, or a branch on a variable with the numbers of its subtrees' nodes, one
+-- for each value in order. Nodes are numbered from 0.
+pub data Node (X : Type 0) : Type 0 where
+  leaf : X → Node X
+  branch : ℕ → List ℕ → Node X
+
+abbrev pub node_of : {X : Type 0} → (X → X → Bool) → List (Diagram X) → Diagram X → Node X
+node_of same nodes (leaf x) = Node.leaf x
+node_of same nodes (branch var ds) = Node.branch var (node_numbers same nodes ds)
+
+-- a diagram as a list of nodes: one for each of its distinct subtrees, in order of first completion
+abbrev pub listed : {X : Type 0} → (X → X → Bool) → Diagram X → List (Node X)
+listed same d = let nodes = nodes_of same d in map (node_of same nodes) nodes

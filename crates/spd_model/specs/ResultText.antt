@@ -2,6 +2,7 @@
 use Rattle.std.specs.Prelude.{ℕ, Bool, ◌++◌, ◌==◌, List, [], ◌∷◌, length, map, flat_map, codes, decimal, ℤ, slice_get, Some, None, zip}
 use Rattle.std.specs.List.{join_with_byte, enumerate_from}
 use Rattle.std.specs.Ordering.{int_eq}
+use Rattle.hex.specs.Hex.{encode_lower}
 use Rattle.spd_scaled.specs.Units.{units_text}
 use Rattle.spd_model.specs.declared.Why.{Why}
 use Rattle.spd_model.specs.declared.Why.TheVariants.{Done, Limit}
@@ -9,10 +10,37 @@ use Rattle.spd_model.specs.declared.Side.{Side}
 use Rattle.spd_model.specs.declared.Side.TheVariants.{Above, Below}
 use Rattle.spd_model.specs.declared.process.Var.{Var}
 use Rattle.spd_model.specs.Process.{Process}
-use Rattle.spd_model.specs.States.{sizes, at}
+use Rattle.spd_model.specs.States.{sizes}
 use Rattle.spd_model.specs.Backup.{policy_of}
-use Rattle.spd_model.specs.Turns.{residual_of, Place, place_of, error_of, stop_of}
-use Rattle.spd_model.specs.Reduced.{Diagram, leaf, branch, reduced, nodes_of, node_numbers}
+use Rattle.spd_model.specs.Turns.{residual_of, Place, place_of, error_of, stop_of, stop_value}
+use Rattle.spd_model.specs.Reduced.{Node, leaf, branch, listed, reduced}
+
+-- What a result tells of a turn: its number, its residual with the place, the error, and the reduced diagrams of its value and
+-- of its policy as lists of nodes.
+pub record Iterate : Type 0 where
+  pub turn : ℕ
+  pub residual : ℤ
+  pub place : Place
+  pub error : ℤ
+  pub value : List (Node ℤ)
+  pub policy : List (Node ℕ)
+
+-- what is told of the value w at turn k
+abbrev pub iterate_of : Process → ℕ → (List ℕ → ℤ) → Iterate
+iterate_of m k w =
+    let r = residual_of m w in
+    record {
+      turn = k;
+      residual = r;
+      place = place_of m w r;
+      error = error_of m r;
+      value = listed int_eq (reduced int_eq (sizes m) w);
+      policy = listed (λ a b. a == b) (reduced (λ a b. a == b) (sizes m) (policy_of m w));
+    }
+
+-- what is told of the turn at which the run of a process stops
+abbrev pub result_of : Process → ℕ → ℤ → Iterate
+result_of m turns span = iterate_of m (stop_of m turns span).turn (stop_value m turns span)
 
 -- words parted by one space, and LF
 abbrev pub line : List (List ℕ) → List ℕ
@@ -45,39 +73,34 @@ value_name var v = elim (slice_get var.values v) [ None ↦ [] | Some name ↦ n
 abbrev pub state_words : Process → List ℕ → List (List ℕ)
 state_words m s = map (λ x. x.0.name ++ codes "=" ++ value_name x.0 x.1) (zip m.vars s)
 
--- the line of a node: its number; then `leaf` and the leaf's text, or `branch`, the variable and the numbers of the subtrees
-abbrev pub node_line : {X : Type 0} → (X → X → Bool) → (X → List ℕ) → (ℕ → List ℕ) → List (Diagram X) → ℕ → Diagram X → List ℕ
-node_line same text name nodes i (leaf x) = line (decimal i ∷ codes "leaf" ∷ text x ∷ [])
-node_line same text name nodes i (branch var ds) =
-    line (decimal i ∷ codes "branch" ∷ name var ∷ map decimal (node_numbers same nodes ds))
+-- the line of a node: its number; then `leaf` and the leaf's text, or `branch`, the variable and the numbers of the subtrees' nodes
+abbrev pub node_line : {X : Type 0} → (X → List ℕ) → (ℕ → List ℕ) → ℕ → Node X → List ℕ
+node_line text name i (leaf x) = line (decimal i ∷ codes "leaf" ∷ text x ∷ [])
+node_line text name i (branch var kids) = line (decimal i ∷ codes "branch" ∷ name var ∷ map decimal kids)
 
--- a diagram: a word and the number of its distinct subtrees, and a line for each of them, in order of first completion
-abbrev pub diagram_text : {X : Type 0} → (X → X → Bool) → (X → List ℕ) → (ℕ → List ℕ) → List ℕ → Diagram X → List ℕ
-diagram_text same text name word d =
-    let nodes = nodes_of same d in
-    line (word ∷ decimal (length nodes) ∷ []) ++ flat_map (λ n. node_line same text name nodes n.0 n.1) (enumerate_from 0 nodes)
+-- the lines of a diagram: a word and the number of its nodes, and a line for each of them
+abbrev pub nodes_text : {X : Type 0} → (X → List ℕ) → (ℕ → List ℕ) → List ℕ → List (Node X) → List ℕ
+nodes_text text name word nodes =
+    line (word ∷ decimal (length nodes) ∷ []) ++ flat_map (λ n. node_line text name n.0 n.1) (enumerate_from 0 nodes)
 
--- the lines from the place of the residual r of w on: its place, the error, the reduced diagrams of w and of its policy
+-- the line of a residual's place
 abbrev pub place_line : Process → Place → List ℕ
-place_line m p =
-    line ((codes "at" ∷ state_words m p.state) ++ side_text p.side ∷ action_name m p.action ∷ [])
+place_line m p = line ((codes "at" ∷ state_words m p.state) ++ side_text p.side ∷ action_name m p.action ∷ [])
 
--- the text of the value w with the residual r, reached at turn k
-abbrev pub text_of : Process → Why → ℕ → (List ℕ → ℤ) → ℤ → List ℕ
-text_of m why k w r =
-    line (codes "spd result 1" ∷ [])
+-- The text of a result. `digest` is that of the model's file, 32 bytes, which are written as 64 hexadecimal digits.
+abbrev pub text_of : List ℕ → Process → Why → Iterate → List ℕ
+text_of digest m why x =
+    line (codes "spd result 2" ∷ [])
+    ++ line (codes "model" ∷ encode_lower digest ∷ [])
     ++ line (codes "status" ∷ why_text why ∷ [])
-    ++ line (codes "turn" ∷ decimal k ∷ [])
-    ++ line (codes "residual" ∷ units r ∷ [])
-    ++ place_line m (place_of m w r)
-    ++ line (codes "error" ∷ units (error_of m r) ∷ [])
-    ++ diagram_text int_eq units (var_name m) (codes "value") (reduced int_eq (sizes m) w)
-    ++ diagram_text (λ a b. a == b) (action_name m) (var_name m) (codes "policy") (reduced (λ a b. a == b) (sizes m) (policy_of m w))
+    ++ line (codes "turn" ∷ decimal x.turn ∷ [])
+    ++ line (codes "residual" ∷ units x.residual ∷ [])
+    ++ place_line m x.place
+    ++ line (codes "error" ∷ units x.error ∷ [])
+    ++ nodes_text units (var_name m) (codes "value") x.value
+    ++ nodes_text (action_name m) (var_name m) (codes "policy") x.policy
     ++ line (codes "end" ∷ [])
 
 -- the result text of a process at a turn limit and a span: of the turn at which its run stops
-abbrev pub result_text : Process → ℕ → ℤ → List ℕ
-result_text m turns span =
-    let stop = stop_of m turns span in
-    let w = at (sizes m) stop.value in
-    text_of m stop.why stop.turn w (residual_of m w)
+abbrev pub result_text : List ℕ → Process → ℕ → ℤ → List ℕ
+result_text digest m turns span = text_of digest m (stop_of m turns span).why (result_of m turns span)

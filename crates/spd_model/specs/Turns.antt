@@ -1,16 +1,15 @@
--- Value iteration: the turns, the residual of a value, and where a run stops.
-use Rattle.std.specs.Prelude.{ℕ, zero, suc, ◌+◌, ◌-◌, Bool, true, false, ◌||◌, if◌then◌else◌, List, [], ◌∷◌, ℤ, pos, ◌-ℤ◌, ◌*ℤ◌, int_le, map, find, unwrap_or}
+-- Value iteration: the turns, the residual of a value, where a run stops, and the error that is told.
+use Rattle.std.specs.Prelude.{ℕ, zero, suc, ◌+◌, ◌-◌, ◌*◌, Bool, ◌||◌, if◌then◌else◌, List, [], ◌∷◌, ℤ, pos, ◌-ℤ◌, ◌*ℤ◌, int_le, map, find, unwrap_or}
 use Rattle.std.specs.Int.{int_max}
 use Rattle.std.specs.Ordering.{int_eq}
-use Rattle.spd_scaled.specs.Scaled.{ceil_div}
-use Rattle.spd_model.specs.declared.Why.{Why}
-use Rattle.spd_model.specs.declared.Why.TheVariants.{Done, Limit}
+use Rattle.spd_scaled.specs.Scaled.{ceil_div, IsWithin}
 use Rattle.spd_model.specs.declared.Side.{Side}
 use Rattle.spd_model.specs.declared.Side.TheVariants.{Above, Below}
 use Rattle.spd_model.specs.Process.{Process}
 use Rattle.spd_model.specs.Numbers.{greatest}
-use Rattle.spd_model.specs.States.{sizes, states, table_of, at}
-use Rattle.spd_model.specs.Chances.{reward_of}
+use Rattle.spd_model.specs.States.{sizes, states, IsState, table_of, at}
+use Rattle.spd_model.specs.Stops.{Stop, first_stop}
+use Rattle.spd_model.specs.Chances.{discount_one, reward_of, reward_limit}
 use Rattle.spd_model.specs.Backup.{best_low, best_high, policy_of, highest_of}
 use Rattle.spd_model.specs.Ranges.{Range, merged}
 
@@ -60,29 +59,30 @@ place_of m w r =
     if int_eq r (gap_above m w s) then record { state = s; side = Above; action = highest_of m w s }
     else record { state = s; side = Below; action = policy_of m w s }
 
--- whether a run stops at a turn with residual r: 2 * r <= tolerance * (1 - discount)
+-- the stop rule for a turn with residual r: 2 * r <= tolerance * (1 - discount)
 abbrev pub stops_at : Process → ℤ → Bool
-stops_at m r = int_le (pos 2 *ℤ r *ℤ pos 1000000) (m.tolerance *ℤ pos (1000000 - m.discount))
+stops_at m r = int_le (pos 2 *ℤ r *ℤ pos discount_one) (m.tolerance *ℤ pos (discount_one - m.discount))
+
+-- whether the stop rule holds at turn k
+abbrev pub rule_at : Process → ℤ → ℕ → Bool
+rule_at m span k = stops_at m (residual_of m (at (sizes m) (turn m span k)))
+
+-- the stop of the run of a process at a turn limit and a span
+abbrev pub stop_of : Process → ℕ → ℤ → Stop
+stop_of m turns span = first_stop (rule_at m span) turns
+
+-- the value at which the run stops, by state
+abbrev pub stop_value : Process → ℕ → ℤ → List ℕ → ℤ
+stop_value m turns span = at (sizes m) (turn m span (stop_of m turns span).turn)
 
 -- the error of a value with residual r: r / (1 - discount), rounded up
 abbrev pub error_of : Process → ℤ → ℤ
-error_of m r = ceil_div (r *ℤ pos 1000000) (pos (1000000 - m.discount))
+error_of m r = ceil_div (r *ℤ pos discount_one) (pos (discount_one - m.discount))
 
--- where a run stops: the turn, why, and the turn's table
-pub record Stop : Type 0 where
-  pub turn : ℕ
-  pub why : Why
-  pub value : List ℤ
+-- the greatest magnitude of a value at any turn
+abbrev pub value_limit : ℕ
+value_limit = (reward_limit + 1) * discount_one
 
--- the stop of a run that is at turn k with the table w and has `left` turns left
-abbrev pub stop_from : Process → ℤ → ℕ → ℕ → List ℤ → Stop
-stop_from m span zero k w =
-    record { turn = k; why = if stops_at m (residual_of m (at (sizes m) w)) then Done else Limit; value = w }
-stop_from m span (suc left) k w = elim (stops_at m (residual_of m (at (sizes m) w))) [
-  | true ↦ record { turn = k; why = Done; value = w }
-  | false ↦ stop_from m span left (k + 1) (next_of m span w)
-]
-
--- The stop of the run: the first turn up to the limit at which the stop rule holds, and where there is none the limit itself.
-abbrev pub stop_of : Process → ℕ → ℤ → Stop
-stop_of m turns span = stop_from m span turns 0 (start_of m)
+-- no value of w passes that magnitude
+abbrev pub IsBounded : List ℕ → (List ℕ → ℤ) → Type 0
+IsBounded sizes w = (s : List ℕ) → IsState sizes s → IsWithin (pos value_limit) (w s)

@@ -23,7 +23,7 @@ pub struct Action {
 
 /// A factored Markov decision process.
 ///
-/// The discount counts in units of 10^-6, the tolerance in units of 10^-9.
+/// The discount counts in units of 10^-6, the tolerance in units of 10^-9. The horizon is a number of steps, where one is stated.
 /// Variables, values, actions and decision diagrams are numbered from 0 in the order of the file.
 #[derive(Debug, Drop)]
 pub struct Model {
@@ -33,6 +33,7 @@ pub struct Model {
     pub reward: Items<Tree>,
     pub discount: u32,
     pub tolerance: i128,
+    pub horizon: Option<u32>,
 }
 
 impl std::marker::Model for Model {
