@@ -11,3 +11,4 @@ pub mod Stops
 pub mod Turns
 pub mod Reduced
 pub mod ResultText
+pub mod Options

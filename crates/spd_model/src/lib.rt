@@ -1,10 +1,12 @@
 //! The factored process as small trees, and the rules of the solver as definitions on plain tables.
 #![tactic(auto)]
 
+mod options;
 mod process;
 mod state;
 mod tree;
 
+pub use options::Options;
 pub use process::{Action, Model, Var};
 use sqlite_items::Items;
 pub use state::State;
