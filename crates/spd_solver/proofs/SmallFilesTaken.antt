@@ -275,7 +275,7 @@ spelled_parts tokens o k x c a r t name values actions reward end e1 e2 e3 e4 e5
 
 -- the process of these parts
 abbrev pub process : Var → List Action → Tree → ℕ × ℕ → Process
-process var actions reward s = record { vars = var ∷ []; dds = []; actions = actions; reward = reward ∷ []; discount = s.0; tolerance = pos s.1 }
+process var actions reward s = record { vars = var ∷ []; dds = []; actions = actions; reward = reward ∷ []; discount = s.0; tolerance = pos s.1; horizon = None }
 
 means_parts : (var : Var) (tokens : List Token) (a : List Action × List Token) (shape : Shape) (reward : Tree) (others : List Token) (s : ℕ × ℕ)
     → IsVariable var → length var.values ≤ 64 → (took : TookActions var 64 tokens a) → 1 ≤ length a.0 → AreDistinct (map (λ (x : Action). x.name) a.0)
@@ -301,6 +301,7 @@ means_parts var tokens a shape reward others s is few took some distinct means s
   tolerance_units = s.1;
   tolerance_means = settings.tolerance_is;
   tolerance = refl;
+  horizon = refl;
 }
 
 -- what a file was read to

@@ -67,6 +67,7 @@ module _ (var : Var) (actions : List Action) (reward : Tree) (s : ℕ × ℕ) wh
     discount = omega (arith, below);
     tolerance_low = omega (arith, ints);
     tolerance_high = omega (arith, ints, small);
+    horizon = tt;
   }
 
 -- ---- actions

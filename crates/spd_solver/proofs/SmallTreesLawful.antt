@@ -188,7 +188,7 @@ Each-map P Q f [] each = tt
 Each-map P Q f (kid ∷ kids) each = (f kid each.0, Each-map P Q f kids each.1)
 
 branch_serves : (role : Role) (var : Var) (text : List ℕ) (primed : Bool) (count : ℕ) → IsHead role var text primed → Serves role (choice_part 0 primed count)
-branch_serves Table var text primed count head = λ next. refl
+branch_serves Table var text primed count head = λ next. omega arith
 branch_serves Reward var text false count head = refl
 branch_serves Reward var text true count head = absurd head
 

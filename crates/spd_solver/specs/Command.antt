@@ -1,29 +1,16 @@
 -- What the words of the command ask for.
-use Rattle.std.specs.Prelude.{ℕ, ◌≤◌, ◌^◌, Bool, false, not, ◌||◌, ◌==◌, if◌then◌else◌, List, [], ◌∷◌, codes, bytes_eq, ℤ, pos, ◌≤ℤ◌, Result, Ok, Err}
-use Rattle.spd_solver.specs.declared.command.Options.{Options}
+use Rattle.std.specs.Prelude.{ℕ, Bool, false, not, ◌||◌, ◌==◌, if◌then◌else◌, List, [], ◌∷◌, codes, bytes_eq, Result, Ok, Err, IfOk, ◌≡◌}
+use Rattle.spd_model.specs.declared.options.Options.{Options}
+use Rattle.spd_model.specs.Options.{default_options}
 
 pub data Command : Type 0 where
   -- solve the model in the file of this name
   solve : List ℕ → Options → Command
 
--- the files that a command reads
-abbrev pub files_of : Command → List (List ℕ)
-files_of (solve file options) = file ∷ []
-
 -- a name that isn't empty, and is `-` or doesn't begin with `-`
 abbrev pub is_file_name : List ℕ → Bool
 is_file_name [] = false
 is_file_name (c ∷ cs) = bytes_eq (c ∷ cs) (codes "-") || not (c == 45)
-
--- the options of a run whose words give none: 10,000 turns, and values are merged only where they are the same
-abbrev pub default_options : Options
-default_options = record { turns = 10000; span = pos 0 }
-
--- at most 1,000,000 turns, and a span from 0 to 10^30 units of 10^-9
-pub record AreWithinLimits (options : Options) : Type 0 where
-  pub turns : options.turns ≤ 1000000
-  pub span_low : pos 0 ≤ℤ options.span
-  pub span_high : options.span ≤ℤ pos (10 ^ 30)
 
 -- the words after `solve`: the name of a file, or the number of the first word that can't stand where it does
 abbrev pub solve_of : List (List ℕ) → Result Command ℕ
@@ -35,3 +22,11 @@ solve_of (name ∷ more ∷ words) = if is_file_name name then Err 2 else Err 1
 abbrev pub command_of : List (List ℕ) → Result Command ℕ
 command_of [] = Err 0
 command_of (word ∷ words) = if bytes_eq word (codes "solve") then solve_of words else Err 0
+
+-- what is said of the command that the words are
+abbrev pub OnCommand : List (List ℕ) → (Command → Type 0) → Type 0
+OnCommand words P = IfOk (command_of words) P
+
+-- the words are no command: the first that can't stand where it does has this number
+abbrev pub IsUsage : List (List ℕ) → ℕ → Type 0
+IsUsage words word = command_of words ≡ Err word

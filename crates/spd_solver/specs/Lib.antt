@@ -1,4 +1,4 @@
-pub mod Words
+pub mod Command
 pub mod Message
 pub mod Pieces
 pub mod SmallToken
@@ -8,6 +8,8 @@ pub mod Small
 pub mod SmallReading
 pub mod SmallContents
 pub mod Run
-pub mod TextParts
-pub mod TextNodes
-pub mod Solved
+pub mod Describes
+pub mod Kind
+pub mod Solve
+pub mod inner
+pub mod Stub

@@ -3,7 +3,7 @@ use Rattle.std.specs.Prelude.{ℕ, List, [], ◌∷◌, codes, decimal}
 use Rattle.std.specs.List.{concat}
 use Rattle.spd_scaled.specs.Units.{units_text}
 use Rattle.spd_solver.specs.declared.status.Status.{Status}
-use Rattle.spd_solver.specs.declared.status.Status.TheVariants.{Done, Usage, OpenFault, ReadFault, TooLong, Refused, Sum, Range, TurnLimit, WriteFault, Memory}
+use Rattle.spd_solver.specs.declared.status.Status.TheVariants.{Done, Usage, OpenFault, ReadFault, TooLong, Refused, TooManyStates, Sum, Range, TurnLimit, WriteFault, Memory}
 
 abbrev pub number_of : Status → ℕ
 number_of Done = 0
@@ -16,6 +16,7 @@ number_of (Sum action var state sum) = 6
 number_of (Range action state value) = 7
 number_of (TurnLimit residual) = 8
 number_of WriteFault = 12
+number_of (TooManyStates product) = 13
 number_of Memory = 14
 
 -- LF
@@ -39,6 +40,7 @@ message_of (OpenFault name) = concat (codes "cannot open " ∷ name ∷ newline 
 message_of (ReadFault name) = concat (codes "cannot read " ∷ name ∷ newline ∷ [])
 message_of (TooLong name) = concat (name ∷ codes " is too long" ∷ newline ∷ [])
 message_of Refused = concat (codes "refused" ∷ newline ∷ [])
+message_of (TooManyStates product) = concat (codes "too many states: " ∷ decimal product ∷ codes " or more" ∷ newline ∷ [])
 message_of (Sum action var state sum) = sum_message action var state (units_text 12 sum)
 message_of (Range action state value) = range_message action state (units_text 9 value)
 message_of (TurnLimit residual) = concat (codes "turn limit reached, residual " ∷ units_text 9 residual ∷ newline ∷ [])

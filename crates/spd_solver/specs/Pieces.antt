@@ -1,6 +1,7 @@
 -- Pieces of a text, and a sink that took the front of a text.
-use Rattle.std.specs.Prelude.{ℕ, ◌≤◌, List, [], ◌∷◌, ◌++◌, length, take, Option}
+use Rattle.std.specs.Prelude.{ℕ, ◌≤◌, List, [], ◌∷◌, ◌++◌, length, take, Option, Result, MatchResult, ◌≡◌}
 use Rattle.std.specs.Borrow.{Bor}
+use Rattle.spd_edge.specs.Counts.{Rose}
 use Rattle.spd_edge.specs.Told.{Took}
 
 -- the text of pieces, one after another
@@ -11,3 +12,9 @@ joined (piece ∷ pieces) = piece.now ++ joined pieces
 -- a sink took the first n bytes of a text, for some n
 abbrev pub TookFront : Option (List ℕ) → List ℕ → Option (List ℕ) → Type 0
 TookFront before text now = (n : ℕ) × (n ≤ length text) × Took before (take n text) now
+
+abbrev pub Wrote : {T E : Type 0} → Option (List ℕ) → List ℕ → Result T E → Option (List ℕ) → Type 0
+Wrote before text result now = MatchResult result (λ _. Took before text now) (λ _. TookFront before text now)
+
+abbrev pub Counted : {T E : Type 0} → ℕ → Result T E → ℕ → Type 0
+Counted before result now = MatchResult result (λ _. now ≡ before) (λ _. Rose before now)

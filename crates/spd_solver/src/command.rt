@@ -1,18 +1,10 @@
 //! What the words of the command ask for.
 ghost use Rattle.std.specs.Prelude.{◌≡◌, IfOk, MatchResult, Ok, Err};
-ghost use Rattle.spd_solver.specs.Command.{command_of, is_file_name, AreWithinLimits};
+ghost use Rattle.spd_model.specs.Options.{AreOptions};
+ghost use Rattle.spd_solver.specs.Command.{command_of, is_file_name};
 ghost use Rattle.spd_solver.specs.inner.Stages.{said, options_of};
 
-use spd_model::Word;
-
-/// The options of a run.
-#[derive(Clone, Copy, Debug, PartialEq, Eq)]
-pub(crate) struct Options {
-    /// The most turns of a run.
-    pub turns: u32,
-    /// The span within which values are merged, in units of 10^-9.
-    pub span: i128,
-}
+use spd_model::{Options, Word};
 
 /// What the words ask for.
 #[derive(Clone, Copy, Debug, PartialEq, Eq)]
@@ -20,12 +12,6 @@ pub(crate) enum Command<'a> {
     /// Solve the model in the file of this name.
     Solve { file: &'a [u8], options: Options },
 }
-
-/// The options of a run whose words give none.
-const DEFAULT_OPTIONS: Options = Options {
-    turns: 10_000,
-    span: 0,
-};
 
 /// Whether a word can stand for a file: `-`, which is standard input, or one that doesn't begin with `-` and isn't empty.
 fn is_file_name(word: &[u8]) -> bool
@@ -41,7 +27,7 @@ fn is_file_name(word: &[u8]) -> bool
 /// What the words ask for, or the number of the first word that can't stand where it does, counted from 0.
 pub(crate) fn read_words(words: &[Word]) -> Result<Command<'_>, usize>
     ensures said { MatchResult result (λ command. command_of words.now ≡ Ok (said command)) (λ word. command_of words.now ≡ Err word) }
-    ensures limits { IfOk result (λ command. AreWithinLimits (options_of command)) }
+    ensures options { IfOk result (λ command. AreOptions (options_of command)) }
 {
     match words {
         [command, file, rest @ ..] if command.as_slice() == b"solve".as_slice() => {
@@ -50,7 +36,7 @@ pub(crate) fn read_words(words: &[Word]) -> Result<Command<'_>, usize>
             } else if rest.is_empty() {
                 Ok(Command::Solve {
                     file: file.as_slice(),
-                    options: DEFAULT_OPTIONS,
+                    options: Options::default(),
                 })
             } else {
                 Err(2)

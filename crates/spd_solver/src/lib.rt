@@ -9,7 +9,7 @@ mod run;
 mod small;
 mod solving;
 mod status;
-mod text;
+mod stub;
 
 pub use file::FILE_LIMIT;
 pub use message::{number, write_message};

@@ -6,7 +6,7 @@ use Rattle.std.specs.List.{concat}
 use Rattle.spd_edge.specs.Told.{Took}
 use Rattle.spd_solver.specs.Pieces.{TookFront}
 use Rattle.spd_solver.specs.Message.{newline, sum_message, range_message, message_of}
-use Rattle.spd_solver.proofs.status.write_message.Goals as goal
+use Rattle.spd_solver.proofs.message.write_message.Goals as goal
 
 pub returns-in-Usage-clause-whole : goal.returns-in-Usage-clause-whole
 returns-in-Usage-clause-whole g c = rw (c.in-Usage.is, sym (c.as_bytes.ensures.value ∙ c.format-word.ensures.text)) c.write_pieces.ensures.whole
