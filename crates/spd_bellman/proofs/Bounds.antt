@@ -4,7 +4,7 @@ use Rattle.std.specs.Prelude.{slice_get, Some}
 use Rattle.std.proofs.lemmas.Int.{ints}
 use Rattle.std.proofs.Math.Nat.{pow-zero, pow-suc, one-le-pow}
 use Rattle.std.proofs.lemmas.Bool.{cases_lt}
-use Rattle.spd_scaled.proofs.Ring.{ring, *ℤ_comm, *ℤ_mono_right, *ℤ_nonnegative, *ℤ_cancel_≤ℤ, ≤ℤ_trans}
+use Rattle.spd_scaled.proofs.CallerLemmas.Ring.{ring, *ℤ_comm, *ℤ_mono_right, *ℤ_nonnegative, *ℤ_cancel_≤ℤ, ≤ℤ_trans}
 use Rattle.spd_model.specs.declared.process.Action.{Action}
 use Rattle.spd_model.specs.Process.{Process}
 use Rattle.spd_model.specs.States.{sizes, IsState, sum_over_states}

@@ -4,8 +4,8 @@ use Rattle.std.proofs.Common.{◌≡◌, ℕ, zero, suc, ◌^◌, ◌<◌, ◌�
 use Rattle.std.proofs.lemmas.Int.{ints}
 use Rattle.std.proofs.Math.Nat.{pow-suc}
 use Rattle.spd_scaled.specs.Scaled.{floor_div, ceil_div}
-use Rattle.spd_scaled.proofs.Ring.{ring, *ℤ_comm, *ℤ_assoc, *ℤ_swap, *ℤ-one, *ℤ_nonnegative, *ℤ_mono_right, ≤ℤ_trans}
-use Rattle.spd_scaled.proofs.DivisionLaws.{floor_div_at_most, ceil_div_at_least}
+use Rattle.spd_scaled.proofs.CallerLemmas.Ring.{ring, *ℤ_comm, *ℤ_assoc, *ℤ_swap, *ℤ-one, *ℤ_nonnegative, *ℤ_mono_right, ≤ℤ_trans}
+use Rattle.spd_scaled.proofs.CallerLemmas.DivisionLaws.{floor_div_at_most, ceil_div_at_least}
 use Rattle.spd_model.specs.Numbers.{sum_below}
 use Rattle.spd_model.specs.States.{IsState, sum_over_states}
 use Rattle.spd_model.specs.Chances.{one}

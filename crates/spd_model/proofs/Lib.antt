@@ -1,3 +1,5 @@
+pub mod CallerLemmas
+mod Walks
+mod Steps
 mod Rows
 mod RowsMany
-pub mod TreeLaws

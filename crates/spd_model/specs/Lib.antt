@@ -4,6 +4,7 @@ pub mod Trees
 pub mod Lawful
 pub mod Numbers
 pub mod States
+pub mod Order
 pub mod Chances
 pub mod Backup
 pub mod Ranges

@@ -4,6 +4,7 @@
 mod options;
 mod process;
 mod state;
+mod states;
 mod tree;
 
 pub use options::Options;

@@ -47,4 +47,11 @@ impl State {
     {
         self.values[var]
     }
+
+    /// The numbers of all values, in the order of the variables.
+    pub fn values(&self) -> &[u8]
+        ensures { result.now ≡ self.now }
+    {
+        &self.values[..self.len as usize]
+    }
 }

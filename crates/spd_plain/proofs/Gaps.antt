@@ -1,5 +1,5 @@
 -- The residual is one of the gaps of some state.
-use Rattle.std.proofs.Common.{◌≡◌, ◌⊎◌, inl, inr, ℕ, zero, suc, ◌<◌, Bool, true, false, ◌||◌, List, [], ◌∷◌, length, map, fold, get_or, slice_index, All, Contains, ℤ, pos, ◌≤ℤ◌, ◌<ℤ◌, int_lt, cond, refl, ap, sym, ◌∙◌, subst, arith}
+use Rattle.std.proofs.Common.{◌≡◌, ◌⊎◌, inl, inr, ℕ, zero, suc, ◌<◌, Bool, true, false, ◌||◌, List, [], ◌∷◌, length, map, drop, ◌≤◌, fold, get_or, slice_index, All, Contains, ℤ, pos, ◌≤ℤ◌, ◌<ℤ◌, int_lt, cond, refl, ap, sym, ◌∙◌, subst, arith}
 use Rattle.std.specs.Int.{int_max}
 use Rattle.std.specs.Ordering.{int_eq}
 use Rattle.std.proofs.lemmas.Bool.{false≢true}
@@ -18,6 +18,7 @@ use Rattle.spd_model.specs.Chances.{one, probability, IsValid}
 use Rattle.spd_model.specs.Backup.{expected_by, low_of, high_of, best_low, best_high}
 use Rattle.spd_model.specs.Turns.{gap_above, gap_below, residual_of}
 use Rattle.spd_plain.proofs.StateOrder.{IsState-get_or, length-states}
+use Rattle.spd_plain.proofs.Limits.{IsState_more, IsState_none, few_sizes}
 use Rattle.spd_plain.proofs.Rows.{gap_at}
 
 sum_below_mono : (n : ℕ) (f g : ℕ → ℤ) → ((v : ℕ) → v < n → f v ≤ℤ g v) → sum_below n f ≤ℤ sum_below n g
@@ -29,14 +30,15 @@ floor-≤ℤ-ceil : (x y d : ℤ) → pos 0 <ℤ d → x ≤ℤ y → floor_div 
 floor-≤ℤ-ceil x y d p h = ≤ℤ_trans (floor_div x d) (floor_div y d) (ceil_div y d) (floor_div_mono x y d p h) (floor_div-≤ℤ-ceil_div y d p)
 
 -- the lower expectation is at most the upper one
-expected_ordered : (size : ℕ → ℕ) (chance : ℕ → ℕ → List ℕ → ℤ) (w : List ℕ → ℤ) (n : ℕ)
-    → ((i : ℕ) → i < n → (v : ℕ) → v < size i → (rest : List ℕ) → pos 0 ≤ℤ chance i v rest) → (rest : List ℕ)
-    → expected_by floor_div size chance w n rest ≤ℤ expected_by ceil_div size chance w n rest
-expected_ordered size chance w zero nonnegative rest = omega (arith, ints)
-expected_ordered size chance w (suc i) nonnegative rest =
+expected_ordered : (sizes : List ℕ) (chance : ℕ → ℕ → List ℕ → ℤ) (w : List ℕ → ℤ) (n : ℕ) → n ≤ length sizes
+    → ((i : ℕ) → i < n → (v : ℕ) → v < slice_index sizes i → (rest : List ℕ) → IsState (drop (suc i) sizes) rest → pos 0 ≤ℤ chance i v rest)
+    → (rest : List ℕ) → IsState (drop n sizes) rest
+    → expected_by floor_div (slice_index sizes) chance w n rest ≤ℤ expected_by ceil_div (slice_index sizes) chance w n rest
+expected_ordered sizes chance w zero few nonnegative rest state = omega (arith, ints)
+expected_ordered sizes chance w (suc i) few nonnegative rest state =
     floor-≤ℤ-ceil _ _ one (omega (arith, ints))
-    (sum_below_mono (size i) _ _ (λ v p. *ℤ_mono_right (chance i v rest) _ _ (nonnegative i (omega arith) v p rest)
-    (expected_ordered size chance w i (λ j q. nonnegative j (omega arith)) (v ∷ rest))))
+    (sum_below_mono (slice_index sizes i) _ _ (λ v p. *ℤ_mono_right (chance i v rest) _ _ (nonnegative i (omega arith) v p rest state)
+    (expected_ordered sizes chance w i (omega arith) (λ j q. nonnegative j (omega arith)) (v ∷ rest) (IsState_more sizes i v rest (omega arith) p state))))
 
 fold_ordered : {X : Type 0} (f g : X → ℤ) (xs : List X) (a b : ℤ) → a ≤ℤ b → All (λ x. f x ≤ℤ g x) xs → fold int_max a (map f xs) ≤ℤ fold int_max b (map g xs)
 fold_ordered f g [] a b h k = h
@@ -71,7 +73,7 @@ has_gap m w r s = int_eq r (gap_above m w s) || int_eq r (gap_below m w s)
 module _ (m : Process) (valid : IsValid m) (w : List ℕ → ℤ) where
   return_ordered : (s : List ℕ) → IsState (sizes m) s → (a : Action) → Contains m.actions a → low_of m w a s ≤ℤ high_of m w a s
   return_ordered s state a acts =
-      let e = expected_ordered (slice_index (sizes m)) (λ i v rest. probability m a i s v) w (length m.vars) (λ i p v q rest. valid.chances a acts i p s state v q) [] in
+      let e = expected_ordered (sizes m) (probability m a s) w (length m.vars) (few_sizes m) (λ i p v q rest later. valid.chances a acts i p s rest state later v q) [] (IsState_none m) in
       let d = floor-≤ℤ-ceil _ _ (pos 1000000) (omega (arith, ints)) (*ℤ_mono_right (pos m.discount) _ _ (omega (arith, ints)) e) in
       omega (arith, ints, d)
 

@@ -9,7 +9,7 @@ use Rattle.spd_model.specs.declared.process.Action.{Action}
 use Rattle.spd_model.specs.Process.{Process}
 use Rattle.spd_model.specs.Numbers.{numbers_below}
 use Rattle.spd_model.specs.States.{sizes, states, IsState}
-use Rattle.spd_model.specs.Chances.{IsValid, one, Sum as SumAt, sums_of, sum_of, first_wrong_sum, Reward, rewards_of, reward_of, first_wide_reward, reward_limit}
+use Rattle.spd_model.specs.Chances.{IsValid, sizes_after, one, Sum as SumAt, sums_of, sum_of, first_wrong_sum, Reward, rewards_of, reward_of, first_wide_reward, reward_limit}
 use Rattle.spd_plain.proofs.Shapes.{find-holds, all_states, All-one}
 
 -- what is found passes the test
@@ -30,7 +30,7 @@ All-numbered P n [] all = λ k d near. absurd (omega arith)
 All-numbered P n (x ∷ xs) all =
     All-append (λ e. P e.1) ((n, x) ∷ []) (enumerate_from (n + 1) xs) (All-one (λ e. P e.1) (n, x) (All-head P x xs all)) (All-numbered P (n + 1) xs (All-tail P x xs all))
 
-all_below : (n : ℕ) → All (λ i. i < n) (numbers_below n)
+pub all_below : (n : ℕ) → All (λ i. i < n) (numbers_below n)
 all_below zero = λ k d near. absurd (omega arith)
 all_below (suc n) =
     All-append (λ i. i < suc n) (numbers_below n) (n ∷ []) (All-weaker (λ i. i < n) (λ i. i < suc n) (λ i h. omega arith) (numbers_below n) (all_below n))
@@ -43,11 +43,11 @@ module _ (m : Process) (valid : IsValid m) where
   IsOne : SumAt → Type 0
   IsOne x = x.sum ≡ one
 
-  sum_at : ℕ × Action → ℕ → List ℕ → SumAt
-  sum_at e i s = record { action = e.0; var = i; state = s; sum = sum_of m e.1 i s }
+  sum_at : ℕ × Action → ℕ → List ℕ → List ℕ → SumAt
+  sum_at e i s rest = record { action = e.0; var = i; state = s; sum = sum_of m e.1 s i rest }
 
   sums_for : ℕ × Action → ℕ → List SumAt
-  sums_for e i = map (sum_at e i) (states (sizes m))
+  sums_for e i = flat_map (λ s. map (sum_at e i s) (states (sizes_after m i))) (states (sizes m))
 
   sums_after : ℕ × Action → List SumAt
   sums_after e = flat_map (sums_for e) (numbers_below (length m.vars))
@@ -55,8 +55,11 @@ module _ (m : Process) (valid : IsValid m) where
   all_for : (e : ℕ × Action) → Contains m.actions e.1 → (i : ℕ) → i < length m.vars → All IsOne (sums_for e i)
   unfolding IsOne sum_at sums_for
   all_for e acts i near =
-      All-map IsOne (sum_at e i) (states (sizes m))
-      (All-weaker (IsState (sizes m)) (λ s. IsOne (sum_at e i s)) (λ s state. valid.sums e.1 acts i near s state) (states (sizes m)) (all_states (sizes m)))
+      All-flat IsOne (λ s. map (sum_at e i s) (states (sizes_after m i))) (states (sizes m))
+      (All-weaker (IsState (sizes m)) (λ s. All IsOne (map (sum_at e i s) (states (sizes_after m i)))) (λ s state.
+      All-map IsOne (sum_at e i s) (states (sizes_after m i))
+      (All-weaker (IsState (sizes_after m i)) (λ rest. IsOne (sum_at e i s rest)) (λ rest later. valid.sums e.1 acts i near s rest state later) (states (sizes_after m i)) (all_states (sizes_after m i))))
+      (states (sizes m)) (all_states (sizes m)))
 
   all_after : (e : ℕ × Action) → Contains m.actions e.1 → All IsOne (sums_after e)
   unfolding sums_after

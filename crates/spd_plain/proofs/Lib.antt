@@ -17,7 +17,7 @@ pub mod Gaps
 pub mod SweepLaws
 pub mod Runs
 pub mod Valid
-pub mod StopLaws
 pub mod Shapes
 pub mod Invalid
+pub mod Told
 pub mod OneState

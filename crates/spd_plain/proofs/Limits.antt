@@ -1,25 +1,26 @@
 -- No value of any turn passes its greatest magnitude, for any number of variables.
-use Rattle.std.proofs.Common.{◌≡◌, inl, inr, ℕ, zero, suc, ◌<◌, Bool, true, false, if◌then◌else◌, List, [], ◌∷◌, length, map, fold, get_or, slice_index, All, Contains, ℤ, pos, ◌+ℤ◌, ◌*ℤ◌, ◌≤ℤ◌, int_le, ap, sym, ◌∙◌, subst, arith}
+use Rattle.std.proofs.Common.{◌≡◌, inl, inr, ℕ, zero, suc, ◌<◌, ◌≤◌, Bool, true, false, if◌then◌else◌, List, [], ◌∷◌, length, map, drop, drop-cons, fold, get_or, slice_index, All, Contains, ℤ, pos, ◌+ℤ◌, ◌*ℤ◌, ◌≤ℤ◌, int_le, ap, sym, ◌∙◌, subst, arith}
 use Rattle.std.specs.Int.{int_max}
 use Rattle.std.specs.List.{list_any}
 use Rattle.std.proofs.lemmas.Bool.{cases_lt}
 use Rattle.std.proofs.lemmas.Int.{ints, int_max_is}
-use Rattle.std.proofs.lemmas.List.{get_or_past}
+use Rattle.std.proofs.lemmas.List.{drop_all, get_or_past}
 use Rattle.std.proofs.lemmas.List.Elements.{All-nil, All-cons, All-head, All-tail, All-map, All-from_get_or, All-contains_itself, All-weaker}
 use Rattle.spd_scaled.specs.Scaled.{IsWithin, floor_div, ceil_div}
 use Rattle.spd_scaled.proofs.Magnitude.{IsWithin_zero, IsWithin_mono, IsWithin-from_abs, IsWithin-+ℤ}
 use Rattle.spd_scaled.proofs.DivisionLaws.{IsWithin-floor_div}
 use Rattle.spd_scaled.proofs.Ring.{*ℤ_comm}
 use Rattle.spd_model.specs.declared.process.Action.{Action}
+use Rattle.spd_model.specs.declared.process.Var.{Var}
+use Rattle.std.proofs.Math.ListN.{length-map}
 use Rattle.spd_model.specs.Process.{Process}
 use Rattle.spd_model.specs.Lawful.{IsLawful}
 use Rattle.spd_model.specs.Numbers.{sum_below, greatest}
 use Rattle.spd_model.specs.States.{sizes, states, table_of, at, rank, IsState}
 use Rattle.spd_model.specs.Chances.{one, probability, reward_of, reward_limit, IsValid}
-use Rattle.spd_model.specs.Backup.{Rounding, expected_by, return_of, best_low, best_high}
+use Rattle.spd_model.specs.Backup.{Rounding, expected_by, expectation, return_of, best_low, best_high}
 use Rattle.spd_model.specs.Ranges.{Range, is_same, is_before, with_range, in_order, Group, group_of, joined, groups_from, groups_of, middle_of, value_in, merged}
-use Rattle.spd_model.specs.Turns.{start_of, ranges_of, next_of, turn}
-use Rattle.spd_plain.specs.Outlooks.{value_limit}
+use Rattle.spd_model.specs.Turns.{value_limit, start_of, ranges_of, next_of, turn}
 use Rattle.spd_plain.proofs.Weights.{sum_below_within}
 use Rattle.spd_plain.proofs.Returns.{KeepsWithin, floor_keeps, ceil_keeps, expectation_within, return_within}
 use Rattle.spd_plain.proofs.StateOrder.{IsState-get_or, length-states}
@@ -31,18 +32,29 @@ IsLimited x = IsWithin (pos value_limit) x
 pub limited_zero : IsLimited (pos 0)
 limited_zero = IsWithin_zero (pos value_limit) (omega (arith, ints))
 
+-- one variable more, with a value of it
+pub IsState_more : (sizes : List ℕ) (i v : ℕ) (rest : List ℕ) → i < length sizes → v < slice_index sizes i → IsState (drop (suc i) sizes) rest → IsState (drop i sizes) (v ∷ rest)
+IsState_more sizes i v rest near below state = subst (λ l. IsState l (v ∷ rest)) (sym (drop-cons sizes i 0 near)) (below, state)
+
+pub IsState_none : (m : Process) → IsState (drop (length m.vars) (sizes m)) []
+IsState_none m = subst (λ l. IsState l []) (sym (drop_all (length m.vars) (sizes m) (omega (arith, length-map m.vars (λ (x : Var). length x.values))))) tt
+
+pub few_sizes : (m : Process) → length m.vars ≤ length (sizes m)
+few_sizes m = omega (arith, length-map m.vars (λ (x : Var). length x.values))
+
 -- a rounded expectation of limited values is limited
-pub expected_limited : (round : Rounding) (k : KeepsWithin round) (size : ℕ → ℕ) (chance : ℕ → ℕ → List ℕ → ℤ) (w : List ℕ → ℤ) (n : ℕ)
-    → ((i : ℕ) → i < n → (v : ℕ) → v < size i → (rest : List ℕ) → pos 0 ≤ℤ chance i v rest)
-    → ((i : ℕ) → i < n → (rest : List ℕ) → sum_below (size i) (λ v. chance i v rest) ≡ one)
-    → ((t : List ℕ) → IsLimited (w t)) → (rest : List ℕ) → IsLimited (expected_by round size chance w n rest)
-expected_limited round k size chance w zero nonnegative whole limited rest = limited rest
-expected_limited round k size chance w (suc i) nonnegative whole limited rest =
-    let e = λ (v : ℕ). expected_by round size chance w i (v ∷ rest) in
-    let each = λ (v : ℕ) (l : v < size i). expected_limited round k size chance w i (λ j p. nonnegative j (omega arith)) (λ j p. whole j (omega arith)) limited (v ∷ rest) in
-    let total = sum_below_within (λ v. chance i v rest) e (pos value_limit) (size i) (λ v l. nonnegative i (omega arith) v l rest) each in
-    expectation_within round k _ (subst (λ x. IsWithin x (sum_below (size i) (λ v. chance i v rest *ℤ e v)))
-    (ap (λ x. x *ℤ pos value_limit) (whole i (omega arith) rest) ∙ *ℤ_comm one (pos value_limit)) total)
+pub expected_limited : (round : Rounding) (k : KeepsWithin round) (sizes : List ℕ) (chance : ℕ → ℕ → List ℕ → ℤ) (w : List ℕ → ℤ) (n : ℕ) → n ≤ length sizes
+    → ((i : ℕ) → i < n → (v : ℕ) → v < slice_index sizes i → (rest : List ℕ) → IsState (drop (suc i) sizes) rest → pos 0 ≤ℤ chance i v rest)
+    → ((i : ℕ) → i < n → (rest : List ℕ) → IsState (drop (suc i) sizes) rest → sum_below (slice_index sizes i) (λ v. chance i v rest) ≡ one)
+    → ((t : List ℕ) → IsLimited (w t)) → (rest : List ℕ) → IsState (drop n sizes) rest → IsLimited (expected_by round (slice_index sizes) chance w n rest)
+expected_limited round k sizes chance w zero few nonnegative whole limited rest state = limited rest
+expected_limited round k sizes chance w (suc i) few nonnegative whole limited rest state =
+    let e = λ (v : ℕ). expected_by round (slice_index sizes) chance w i (v ∷ rest) in
+    let each = λ (v : ℕ) (l : v < slice_index sizes i). expected_limited round k sizes chance w i (omega arith) (λ j p. nonnegative j (omega arith)) (λ j p. whole j (omega arith)) limited (v ∷ rest)
+    (IsState_more sizes i v rest (omega arith) l state) in
+    let total = sum_below_within (λ v. chance i v rest) e (pos value_limit) (slice_index sizes i) (λ v l. nonnegative i (omega arith) v l rest state) each in
+    expectation_within round k _ (subst (λ x. IsWithin x (sum_below (slice_index sizes i) (λ v. chance i v rest *ℤ e v)))
+    (ap (λ x. x *ℤ pos value_limit) (whole i (omega arith) rest state) ∙ *ℤ_comm one (pos value_limit)) total)
 
 max_limited : (x y : ℤ) → IsLimited x → IsLimited y → IsLimited (int_max x y)
 max_limited x y h k = record { low = omega (arith, ints, int_max_is x y, h.low, k.low); high = omega (arith, ints, int_max_is x y, h.high, k.high) }
@@ -63,17 +75,17 @@ All-table_of P sizes f h =
 module _ (m : Process) (law : IsLawful m) (valid : IsValid m) where
   -- a return where limited values follow
   pub return_limited : (round : Rounding) (k : KeepsWithin round) (w : List ℕ → ℤ) → ((t : List ℕ) → IsLimited (w t))
-      → (a : Action) → Contains m.actions a → (s : List ℕ) → IsState (sizes m) s → IsLimited (return_of round m w a s)
+      → (a : Action) → Contains m.actions a → (s : List ℕ) → IsState (sizes m) s → IsLimited (return_of round m (expectation round m w) a s)
   return_limited round k w limited a acts s state =
       return_within round k (reward_of m a s) m.discount _ (IsWithin-from_abs reward_limit _ (valid.rewards a acts s state)) law.discount
-      (expected_limited round k (slice_index (sizes m)) (λ i v rest. probability m a i s v) w (length m.vars)
-      (λ i p v q rest. valid.chances a acts i p s state v q) (λ i p rest. valid.sums a acts i p s state) limited [])
+      (expected_limited round k (sizes m) (probability m a s) w (length m.vars) (few_sizes m)
+      (λ i p v q rest later. valid.chances a acts i p s rest state later v q) (λ i p rest later. valid.sums a acts i p s rest state later) limited [] (IsState_none m))
 
   best_limited : (round : Rounding) (k : KeepsWithin round) (w : List ℕ → ℤ) → ((t : List ℕ) → IsLimited (w t))
-      → (s : List ℕ) → IsState (sizes m) s → IsLimited (greatest (map (λ a. return_of round m w a s) m.actions))
+      → (s : List ℕ) → IsState (sizes m) s → IsLimited (greatest (map (λ a. return_of round m (expectation round m w) a s) m.actions))
   best_limited round k w limited s state =
-      greatest_limited _ (All-map IsLimited (λ a. return_of round m w a s) m.actions
-      (All-weaker (Contains m.actions) (λ a. IsLimited (return_of round m w a s)) (λ a acts. return_limited round k w limited a acts s state) m.actions
+      greatest_limited _ (All-map IsLimited (λ a. return_of round m (expectation round m w) a s) m.actions
+      (All-weaker (Contains m.actions) (λ a. IsLimited (return_of round m (expectation round m w) a s)) (λ a acts. return_limited round k w limited a acts s state) m.actions
       (All-contains_itself m.actions)))
 
   pub best_low_limited : (w : List ℕ → ℤ) → ((t : List ℕ) → IsLimited (w t)) → (s : List ℕ) → IsState (sizes m) s → IsLimited (best_low m w s)

@@ -1,5 +1,5 @@
 -- A process of one state, as the tests build it, is lawful.
-use Rattle.std.proofs.Common.{◌≡◌, ℕ, zero, suc, ◌^◌, ◌%◌, ◌<◌, ◌≤◌, [], ◌∷◌, codes, All, ℤ, pos, ◌≤ℤ◌, unsigned_abs, refl, arith, slice_index_or, IsTrue}
+use Rattle.std.proofs.Common.{◌≡◌, ℕ, zero, suc, ◌^◌, ◌%◌, ◌<◌, ◌≤◌, [], ◌∷◌, codes, All, ℤ, pos, ◌≤ℤ◌, unsigned_abs, refl, arith, None, slice_index_or, IsTrue}
 use Rattle.std.proofs.lemmas.Int.{ints}
 use Rattle.std.proofs.lemmas.List.Elements.{All-nil, All-cons}
 use Rattle.spd_model.specs.declared.tree.Tree.{Tree, Leaf}
@@ -24,6 +24,7 @@ one_state chance reward = record {
   reward = Leaf reward ∷ [];
   discount = 500000;
   tolerance = pos 100000000;
+  horizon = None;
 }
 
 only : {X : Type 0} (P : X → Type 0) (x : X) → P x → All P (x ∷ [])
@@ -61,4 +62,5 @@ module _ (chance reward : ℤ) (low : pos 0 ≤ℤ chance) (high : unsigned_abs 
     discount = omega arith;
     tolerance_low = omega (arith, ints);
     tolerance_high = omega (arith, ints);
+    horizon = tt;
   }

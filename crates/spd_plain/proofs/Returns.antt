@@ -8,8 +8,9 @@ use Rattle.spd_scaled.proofs.DivisionLaws.{IsWithin-floor_div, IsWithin-ceil_div
 use Rattle.spd_scaled.proofs.Magnitude.{IsWithin_mono, IsWithin-*ℤ, IsWithin-+ℤ, fits_within}
 use Rattle.spd_model.specs.Chances.{one, reward_limit}
 use Rattle.spd_model.specs.Backup.{Rounding}
+use Rattle.spd_model.specs.Turns.{value_limit}
 use Rattle.spd_plain.specs.declared.outlook.Outlook.{Outlook}
-use Rattle.spd_plain.specs.Outlooks.{value_limit, weighted, return_by}
+use Rattle.spd_plain.specs.Outlooks.{weighted, return_by}
 
 -- a rounding that keeps magnitudes
 pub record KeepsWithin (round : Rounding) : Type 0 where

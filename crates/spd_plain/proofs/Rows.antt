@@ -3,7 +3,7 @@ use Rattle.std.proofs.Common.{◌≡◌, inl, inr, ℕ, zero, suc, ◌+◌, ◌^
 use Rattle.std.specs.Int.{int_max}
 use Rattle.std.proofs.lemmas.Bool.{cases_lt}
 use Rattle.std.proofs.lemmas.Int.{ints}
-use Rattle.std.proofs.lemmas.List.{get_or-map, get_or_past, take_more, map_push}
+use Rattle.std.proofs.lemmas.List.{drop_all, get_or-map, get_or_past, take_more, map_push}
 use Rattle.std.proofs.Math.ListN.{length-map}
 use Rattle.std.proofs.lemmas.List.Elements.{All-map, All-weaker, All-contains_itself}
 use Rattle.spd_scaled.specs.Scaled.{IsWithin, floor_div, ceil_div}
@@ -15,16 +15,17 @@ use Rattle.spd_model.specs.Process.{Process}
 use Rattle.spd_model.specs.Lawful.{IsLawful}
 use Rattle.spd_model.specs.Numbers.{numbers_below, sum_below, greatest, first_place}
 use Rattle.spd_model.specs.States.{sizes, states, state_count, at, rank, IsState}
-use Rattle.spd_model.specs.Chances.{one, probability, reward_of, reward_limit, IsValid}
-use Rattle.spd_model.specs.Backup.{Rounding, expected_by, return_of, best_low, best_high, policy_of, highest_of}
+use Rattle.spd_model.specs.Chances.{one, probability, sizes_after, reward_of, reward_limit, IsValid}
+use Rattle.spd_model.specs.declared.process.Var.{Var}
+use Rattle.spd_model.specs.Backup.{Rounding, expected_by, expectation, return_of, best_low, best_high, policy_of, highest_of}
 use Rattle.spd_model.specs.Ranges.{Range}
-use Rattle.spd_model.specs.Turns.{gap_above, gap_below}
+use Rattle.spd_model.specs.Turns.{value_limit, gap_above, gap_below}
 use Rattle.spd_plain.specs.declared.ranges.Bounds.{Bounds}
 use Rattle.spd_plain.specs.Bounds.{range_of, IsSmall}
 use Rattle.spd_plain.specs.Sweeps.{CanSweep}
 use Rattle.spd_plain.proofs.Limits.{IsLimited, best_low_limited, best_high_limited}
 use Rattle.spd_plain.specs.declared.outlook.Outlook.{Outlook}
-use Rattle.spd_plain.specs.Outlooks.{value_limit, weighted, return_by, rounding_of, outlook_of, outlooks_at, outlooks_of, IsOutlook, AreOutlooks}
+use Rattle.spd_plain.specs.Outlooks.{weighted, return_by, rounding_of, outlook_of, outlooks_at, outlooks_of, IsOutlook, AreOutlooks}
 use Rattle.spd_plain.proofs.StateOrder.{length-numbers_below, get_or-numbers_below, get_or-table_of, length-table_of, length-states, IsState-get_or, at-get_or}
 use Rattle.spd_plain.proofs.OneVariable.{at_is, state_count_is}
 
@@ -61,44 +62,48 @@ module _ (m : Process) (one_variable : length m.vars ≡ 1) where
 
   -- the chances after an action are as many as there are states
   pub length-chances : (s : List ℕ) (a : Action) → length (outlook_of m s a).chances ≡ state_count (sizes m)
-  length-chances s a = length-below (probability m a 0 s) (slice_index (sizes m) 0) ∙ state_count_is m one_variable
+  length-chances s a = length-below (λ v. probability m a s 0 v []) (slice_index (sizes m) 0) ∙ state_count_is m one_variable
 
   weighted_is : (s : List ℕ) (a : Action) (values : List ℤ)
-      → weighted (outlook_of m s a).chances values ≡ sum_below (slice_index (sizes m) 0) (λ v. probability m a 0 s v *ℤ at (sizes m) values (v ∷ []))
+      → weighted (outlook_of m s a).chances values ≡ sum_below (slice_index (sizes m) 0) (λ v. probability m a s 0 v [] *ℤ at (sizes m) values (v ∷ []))
   weighted_is s a values =
-      ap (λ (n : ℕ). sum_below n (λ v. get_or (outlook_of m s a).chances v (pos 0) *ℤ get_or values v (pos 0))) (length-below (probability m a 0 s) (slice_index (sizes m) 0))
+      ap (λ (n : ℕ). sum_below n (λ v. get_or (outlook_of m s a).chances v (pos 0) *ℤ get_or values v (pos 0))) (length-below (λ v. probability m a s 0 v []) (slice_index (sizes m) 0))
       ∙ sum_below_same (slice_index (sizes m) 0) _ _
-      (λ v h i. get_or-below (probability m a 0 s) (slice_index (sizes m) 0) v h i *ℤ sym (at_is m one_variable values v) i)
+      (λ v h i. get_or-below (λ v. probability m a s 0 v []) (slice_index (sizes m) 0) v h i *ℤ sym (at_is m one_variable values v) i)
 
   -- the return from an outlook is the return of the definitions
   pub return_is_of : (round : Rounding) (values : List ℤ) (s : List ℕ) (a : Action)
-      → return_by round m.discount values (outlook_of m s a) ≡ return_of round m (at (sizes m) values) a s
+      → return_by round m.discount values (outlook_of m s a) ≡ return_of round m (expectation round m (at (sizes m) values)) a s
   return_is_of round values s a =
       ap (λ x. reward_of m a s +ℤ round (pos m.discount *ℤ x) (pos 1000000))
       (ap (λ x. round x one) (weighted_is s a values)
-      ∙ sym (ap (λ (n : ℕ). expected_by round (slice_index (sizes m)) (λ i v rest. probability m a i s v) (at (sizes m) values) n []) one_variable))
+      ∙ sym (ap (λ (n : ℕ). expected_by round (slice_index (sizes m)) (probability m a s) (at (sizes m) values) n []) one_variable))
 
   -- the same over all actions
   pub returns_are : (round : Rounding) (values : List ℤ) (s : List ℕ)
-      → map (return_by round m.discount values) (outlooks_at m s) ≡ map (λ a. return_of round m (at (sizes m) values) a s) m.actions
+      → map (return_by round m.discount values) (outlooks_at m s) ≡ map (λ a. return_of round m (expectation round m (at (sizes m) values)) a s) m.actions
   returns_are round values s = map-map (return_by round m.discount values) (outlook_of m s) m.actions ∙ (λ i. map (λ a. return_is_of round values s a i) m.actions)
 
   module _ (valid : IsValid m) (s : List ℕ) (state : IsState (sizes m) s) where
     first : 0 < length m.vars
     first = omega arith
 
+    -- no variable comes after the first
+    last : IsState (sizes_after m 0) []
+    last = subst (λ l. IsState l []) (sym (drop_all 1 (sizes m) (omega (arith, length-map m.vars (λ (x : Var). length x.values))))) tt
+
     outlook_valid : (a : Action) → Contains m.actions a → IsOutlook (outlook_of m s a)
     outlook_valid a acts = record {
       reward = IsWithin-from_abs reward_limit _ (valid.rewards a acts s state);
       chances = record {
         nonnegative = λ v. elim (cases_lt v (slice_index (sizes m) 0)) [
-          | inl near ↦ subst (λ x. pos 0 ≤ℤ x) (sym (get_or-below (probability m a 0 s) (slice_index (sizes m) 0) v near)) (valid.chances a acts 0 first s state v near)
-          | inr far ↦ subst (λ x. pos 0 ≤ℤ x) (sym (get_or_past (outlook_of m s a).chances v (pos 0) (omega (arith, far, length-below (probability m a 0 s) (slice_index (sizes m) 0)))))
+          | inl near ↦ subst (λ x. pos 0 ≤ℤ x) (sym (get_or-below (λ v. probability m a s 0 v []) (slice_index (sizes m) 0) v near)) (valid.chances a acts 0 first s [] state last v near)
+          | inr far ↦ subst (λ x. pos 0 ≤ℤ x) (sym (get_or_past (outlook_of m s a).chances v (pos 0) (omega (arith, far, length-below (λ v. probability m a s 0 v []) (slice_index (sizes m) 0)))))
               (omega (arith, ints))
         ];
-        whole = ap (λ (n : ℕ). sum_below n (λ v. get_or (outlook_of m s a).chances v (pos 0))) (length-below (probability m a 0 s) (slice_index (sizes m) 0))
-            ∙ sum_below_same (slice_index (sizes m) 0) _ _ (λ v h. get_or-below (probability m a 0 s) (slice_index (sizes m) 0) v h)
-            ∙ valid.sums a acts 0 first s state;
+        whole = ap (λ (n : ℕ). sum_below n (λ v. get_or (outlook_of m s a).chances v (pos 0))) (length-below (λ v. probability m a s 0 v []) (slice_index (sizes m) 0))
+            ∙ sum_below_same (slice_index (sizes m) 0) _ _ (λ v h. get_or-below (λ v. probability m a s 0 v []) (slice_index (sizes m) 0) v h)
+            ∙ valid.sums a acts 0 first s [] state last;
       };
     }
 
@@ -149,7 +154,7 @@ module _ (m : Process) (law : IsLawful m) (rows : List (List Outlook)) (values :
   pub row_are : AreOutlooks values row
   row_are = subst (AreOutlooks values) (sym row_at) (outlooks_are m can.one_variable can.valid state_of is_state law values can.count)
 
-  returns_at : (round : Rounding) → map (return_by round m.discount values) row ≡ map (λ a. return_of round m (at (sizes m) values) a state_of) m.actions
+  returns_at : (round : Rounding) → map (return_by round m.discount values) row ≡ map (λ a. return_of round m (expectation round m (at (sizes m) values)) a state_of) m.actions
   returns_at round = ap (map (return_by round m.discount values)) row_at ∙ returns_are m can.one_variable round values state_of
 
   pub low_at : greatest (map (return_by floor_div m.discount values) row) ≡ best_low m (at (sizes m) values) state_of

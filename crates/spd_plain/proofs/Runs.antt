@@ -1,5 +1,5 @@
 -- The run of value iteration, turn after turn.
-use Rattle.std.proofs.Common.{◌≡◌, ℕ, zero, suc, ◌+◌, ◌-◌, ◌^◌, ◌<◌, true, false, if◌then◌else◌, List, [], ◌∷◌, length, map, fold, get_or, All, ℤ, pos, ◌-ℤ◌, ap, sym, ◌∙◌, subst, arith}
+use Rattle.std.proofs.Common.{◌≡◌, ℕ, zero, suc, ◌+◌, ◌-◌, ◌^◌, ◌<◌, Bool, true, false, if◌then◌else◌, refl, List, [], ◌∷◌, length, map, fold, get_or, All, ℤ, pos, ◌-ℤ◌, ap, sym, ◌∙◌, subst, arith}
 use Rattle.std.specs.Int.{int_max}
 use Rattle.std.proofs.lemmas.Int.{ints, int_max_is}
 use Rattle.std.proofs.Math.ListN.{length-map}
@@ -14,7 +14,8 @@ use Rattle.spd_model.specs.Numbers.{greatest}
 use Rattle.spd_model.specs.States.{sizes, state_count, at, rank, table_of}
 use Rattle.spd_model.specs.Chances.{IsValid, reward_of}
 use Rattle.spd_model.specs.Ranges.{groups_of, in_order, value_in}
-use Rattle.spd_model.specs.Turns.{Stop, ranges_of, next_of, turn, residual_of, stops_at, stop_from}
+use Rattle.spd_model.specs.Stops.{Stop, first_from, first_stop}
+use Rattle.spd_model.specs.Turns.{ranges_of, next_of, turn, residual_of}
 use Rattle.spd_plain.specs.declared.outlook.Outlook.{Outlook}
 use Rattle.spd_plain.specs.Outlooks.{outlooks_of, AreBounded}
 use Rattle.spd_plain.specs.Sweeps.{CanSweep}
@@ -22,23 +23,25 @@ use Rattle.spd_plain.proofs.StateOrder.{length-table_of}
 use Rattle.spd_plain.proofs.Limits.{IsLimited, turn_limited, best_low_limited, best_high_limited, All-table_of}
 use Rattle.spd_plain.proofs.Rows.{range_at, gap_at}
 
--- where a run stops: here, later, or at its limit
-abbrev pub stopped : ℕ → Why → List ℤ → Stop
-stopped k why w = record { turn = k; why = why; value = w }
+-- The search for the stop, from turn k on with `left` turns before the limit: it ends here, or goes on.
+module _ (rule : ℕ → Bool) (k : ℕ) where
+  pub first_here : (left : ℕ) → rule k ≡ true → first_from rule k left ≡ k
+  first_here zero h = refl
+  first_here (suc left) h = ap (λ b. elim b [ true ↦ k | false ↦ first_from rule (suc k) left ]) h
 
-module _ (m : Process) (span : ℤ) (k : ℕ) (w : List ℤ) where
-  pub stops_here : (left : ℕ) → stops_at m (residual_of m (at (sizes m) w)) ≡ true → record { turn = k; why = Done; value = w } ≡ stop_from m span left k w
-  stops_here zero h = sym (ap (λ b. stopped k (if b then Done else Limit) w) h)
-  stops_here (suc left) h = sym (ap (λ b. elim b [ true ↦ stopped k Done w | false ↦ stop_from m span left (k + 1) (next_of m span w) ]) h)
+  pub first_later : (left : ℕ) → 0 < left → rule k ≡ false → first_from rule k left ≡ first_from rule (k + 1) (left - 1)
+  first_later zero p h = absurd (omega arith)
+  first_later (suc left) p h =
+      ap (λ b. elim b [ true ↦ k | false ↦ first_from rule (suc k) left ]) h ∙ (let next : suc k ≡ k + 1 = omega arith in let less : left ≡ suc left - 1 = omega arith in λ i. first_from rule (next i) (less i))
 
-  pub stops_later : (left : ℕ) → 0 < left → stops_at m (residual_of m (at (sizes m) w)) ≡ false → stop_from m span left k w ≡ stop_from m span (left - 1) (k + 1) (next_of m span w)
-  stops_later zero p h = absurd (omega arith)
-  stops_later (suc left) p h =
-      ap (λ b. elim b [ true ↦ stopped k Done w | false ↦ stop_from m span left (k + 1) (next_of m span w) ]) h
-      ∙ ap (λ (n : ℕ). stop_from m span n (k + 1) (next_of m span w)) (omega arith)
+  pub first_at_limit : (left : ℕ) → left ≡ 0 → first_from rule k left ≡ k
+  first_at_limit left h = ap (first_from rule k) h
 
-  pub stops_at_limit : (left : ℕ) → left ≡ 0 → record { turn = k; why = if stops_at m (residual_of m (at (sizes m) w)) then Done else Limit; value = w } ≡ stop_from m span left k w
-  stops_at_limit left h = sym (ap (λ (n : ℕ). stop_from m span n k w) h)
+  -- where the search from the start ends here, the stop is here
+  pub stop_here : (turns : ℕ) (why : Why) → first_from rule 0 turns ≡ k → why ≡ (if rule k then Done else Limit) → record { turn = k; why = why } ≡ first_stop rule turns
+  stop_here turns why is is_why =
+      let stop : ℕ → Stop = λ j. record { turn = j; why = if rule j then Done else Limit } in
+      (λ i. record { turn = k; why = is_why i }) ∙ ap stop (sym is)
 
 -- each turn has one value for each state
 pub length-turn : (m : Process) (span : ℤ) (k : ℕ) → length (turn m span k) ≡ state_count (sizes m)

@@ -9,9 +9,8 @@ use Rattle.std.proofs.Math.Nat.{mul-le-mul_right}
 use Rattle.spd_model.specs.Process.{Process}
 use Rattle.spd_model.specs.Numbers.{numbers_below}
 use Rattle.spd_model.specs.States.{sizes, states, state_count, IsState, table_of, at}
-use Rattle.spd_model.specs.Chances.{IsValid, Sum as SumAt, sums_of, first_wrong_sum, Reward, rewards_of, first_wide_reward}
-use Rattle.spd_model.specs.Ranges.{Range, value_in, groups_of, in_order, merged}
-use Rattle.spd_model.specs.Turns.{start_of, next_of, ranges_of, residual_of, state_of_residual, place_of, stops_at, Stop, stop_from, stop_of}
+use Rattle.spd_model.specs.Chances.{IsValid, Sum as SumAt, sizes_after, sums_of, first_wrong_sum, Reward, rewards_of, first_wide_reward}
+use Rattle.spd_model.specs.Turns.{residual_of, state_of_residual, place_of, stop_of, stop_value}
 use Rattle.spd_model.specs.declared.Side.TheVariants.{Above, Below}
 use Rattle.spd_model.specs.declared.process.Var.{Var}
 use Rattle.spd_model.specs.Lawful.{IsLawful, HasValues}
@@ -19,33 +18,10 @@ use Rattle.spd_plain.specs.declared.solve.Plain.{Plain}
 use Rattle.spd_plain.specs.declared.solve.PlainFault.{PlainFault}
 use Rattle.spd_plain.specs.declared.solve.PlainFault.TheVariants.{Sum, Range as Wide, Memory}
 use Rattle.spd_plain.specs.Plain.{plain_of, FaultCause, IsShaped, IsPlaced}
+use Rattle.spd_plain.proofs.Runs.{length-turn}
 use Rattle.spd_plain.proofs.SweepLaws.{placed}
 use Rattle.spd_plain.proofs.StateOrder.{length-states, length-table_of, IsState-get_or}
 use Rattle.spd_plain.proofs.Gaps.{has_gap, not_nowhere}
-
--- the merged values are as many as the ranges
-length-next_of : (m : Process) (span : ℤ) (w : List ℤ) → length (next_of m span w) ≡ state_count (sizes m)
-length-next_of m span w =
-    length-map (ranges_of m (at (sizes m) w)) (value_in (groups_of span (in_order (ranges_of m (at (sizes m) w)))))
-    ∙ length-table_of (sizes m) _
-
--- the stop of a turn, by whether the stop rule holds there
-abbrev stopped : ℕ → List ℤ → Stop → Bool → Stop
-stopped k w later b = elim b [ true ↦ record { turn = k; why = Done; value = w } | false ↦ later ]
-
-length-stopped : (n k : ℕ) (w : List ℤ) (later : Stop) → length w ≡ n → length later.value ≡ n → (b : Bool) → length (stopped k w later b).value ≡ n
-length-stopped n k w later now after true = now
-length-stopped n k w later now after false = after
-
-length-stop_from : (m : Process) (span : ℤ) (left k : ℕ) (w : List ℤ) → length w ≡ state_count (sizes m) → length (stop_from m span left k w).value ≡ state_count (sizes m)
-length-stop_from m span zero k w h = h
-length-stop_from m span (suc left) k w h =
-    length-stopped (state_count (sizes m)) k w (stop_from m span left (k + 1) (next_of m span w)) h
-    (length-stop_from m span left (k + 1) (next_of m span w) (length-next_of m span w)) (stops_at m (residual_of m (at (sizes m) w)))
-
--- the table at which a run stops has an entry for each state
-pub length-stop_of : (m : Process) (turns : ℕ) (span : ℤ) → length (stop_of m turns span).value ≡ state_count (sizes m)
-length-stop_of m turns span = length-stop_from m span turns 0 (start_of m) (length-table_of (sizes m) _)
 
 -- what is found in a list of which something holds is something of which it holds
 pub find-holds : {X : Type 0} (P : X → Type 0) (p : X → Bool) (xs : List X) (x : X) → All P xs → find p xs ≡ Some x → P x
@@ -67,6 +43,10 @@ All-each : {X Y : Type 0} (P : Y → Type 0) (f : X → List Y) (xs : List X) �
 All-each P f [] each = λ k d near. absurd (omega arith)
 All-each P f (x ∷ xs) each = All-append P (f x) (flat_map f xs) (each x) (All-each P f xs each)
 
+All-flat_states : {X Y : Type 0} (P : Y → Type 0) (f : X → List Y) (xs : List X) → All (λ x. All P (f x)) xs → All P (flat_map f xs)
+All-flat_states P f [] all = λ k d near. absurd (omega arith)
+All-flat_states P f (x ∷ xs) all = All-append P (f x) (flat_map f xs) (All-head (λ y. All P (f y)) x xs all) (All-flat_states P f xs (All-tail (λ y. All P (f y)) x xs all))
+
 pub all_states : (sizes : List ℕ) → All (IsState sizes) (states sizes)
 all_states sizes = λ k d near.
     subst (IsState sizes) (get_or_default (states sizes) k [] d near) (IsState-get_or sizes k (omega (arith, near, length-states sizes)))
@@ -76,7 +56,8 @@ pub wrong_sum-placed : (m : Process) (x : SumAt) → first_wrong_sum m ≡ Some 
 wrong_sum-placed m x is =
     let P : SumAt → Type 0 = λ y. IsState (sizes m) y.state in
     find-holds P _ (sums_of m) x
-    (All-each P _ (enumerate_from 0 m.actions) (λ a. All-each P _ (numbers_below (length m.vars)) (λ i. All-map P _ (states (sizes m)) (all_states (sizes m))))) is
+    (All-each P _ (enumerate_from 0 m.actions) (λ a. All-each P _ (numbers_below (length m.vars)) (λ i.
+    All-flat_states P _ (states (sizes m)) (λ k d near. All-map P _ (states (sizes_after m i)) (λ j e below. all_states (sizes m) k d near))))) is
 
 pub wide_reward-placed : (m : Process) (x : Reward) → first_wide_reward m ≡ Some x → IsState (sizes m) x.state
 wide_reward-placed m x is =
@@ -113,9 +94,9 @@ some_states m law = rw (length-states (sizes m)) (counted m.vars law.values)
 -- the shape of the result, and of a fault
 pub plain-shaped : (m : Process) → IsLawful m → IsValid m → (turns : ℕ) (span : ℤ) (p : Plain) → p ≡ plain_of m turns span → IsShaped m p
 plain-shaped m law valid turns span p is = subst (IsShaped m) (sym is) (record {
-  value = length-stop_of m turns span;
+  value = length-turn m span (stop_of m turns span).turn;
   policy = length-table_of (sizes m) _;
-  place = place_state (at (sizes m) (stop_of m turns span).value);
+  place = place_state (stop_value m turns span);
 })
   where
     of_side : (b : Bool) (s : List ℕ) (a c : ℕ) → IsState (sizes m) s → IsState (sizes m) (if b then placed s Above a else placed s Below c).state

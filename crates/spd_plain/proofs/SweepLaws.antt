@@ -14,10 +14,10 @@ use Rattle.spd_model.specs.States.{sizes, states, state_count, at, rank}
 use Rattle.spd_model.specs.Chances.{IsValid}
 use Rattle.spd_model.specs.Backup.{policy_of, highest_of}
 use Rattle.spd_model.specs.Ranges.{Range}
-use Rattle.spd_model.specs.Turns.{Place, place_of, gap_above, gap_below, ranges_of, state_of_residual}
+use Rattle.spd_model.specs.Turns.{value_limit, Place, place_of, gap_above, gap_below, ranges_of, state_of_residual}
 use Rattle.spd_plain.specs.declared.ranges.Bounds.{Bounds}
 use Rattle.spd_plain.specs.Bounds.{range_of, IsSmall}
-use Rattle.spd_plain.specs.Outlooks.{AreBounded, value_limit}
+use Rattle.spd_plain.specs.Outlooks.{AreBounded}
 use Rattle.spd_plain.proofs.StateOrder.{length-table_of, get_or-table_of, at-get_or}
 use Rattle.spd_plain.proofs.Limits.{IsLimited, IsLimitedRange, ranges_limited}
 use Rattle.spd_plain.proofs.Finds.{find_first}

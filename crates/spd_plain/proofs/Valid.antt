@@ -1,5 +1,5 @@
 -- A lawful model with no wrong sum and no wide reward is valid.
-use Rattle.std.proofs.Common.{◌≡◌, ℕ, zero, suc, ◌<◌, ◌≤◌, Bool, true, false, not, nat_le, cond, List, [], ◌∷◌, length, map, flat_map, get_or, slice_get, slice_set, find, None, Some, All, Contains, pos, ◌≤ℤ◌, unsigned_abs, refl, sym, subst, arith}
+use Rattle.std.proofs.Common.{◌≡◌, ℕ, zero, suc, ◌<◌, ◌≤◌, Bool, true, false, not, nat_le, cond, List, [], ◌∷◌, length, map, flat_map, get_or, slice_get, take, ◌++◌, find, None, Some, All, Contains, pos, ◌≤ℤ◌, unsigned_abs, refl, sym, subst, arith}
 use Rattle.std.specs.List.{enumerate_from}
 use Rattle.std.specs.Ordering.{int_eq}
 use Rattle.std.proofs.lemmas.Bool.{false≢true}
@@ -17,7 +17,7 @@ use Rattle.spd_model.specs.Trees.{value_of}
 use Rattle.spd_model.specs.Lawful.{IsLawful, IsAction, IsTable}
 use Rattle.spd_model.specs.Numbers.{numbers_below}
 use Rattle.spd_model.specs.States.{sizes, states, rank, IsState}
-use Rattle.spd_model.specs.Chances.{Sum, Reward, one, sum_of, reward_of, reward_limit, sums_of, rewards_of, first_wrong_sum, first_wide_reward, IsValid}
+use Rattle.spd_model.specs.Chances.{Sum, Reward, sizes_after, one, sum_of, reward_of, reward_limit, sums_of, rewards_of, first_wrong_sum, first_wide_reward, IsValid}
 use Rattle.spd_model.proofs.TreeLaws.{All-left, All-right}
 use Rattle.spd_plain.proofs.StateOrder.{length-states, rank_below, get_or-states, length-numbers_below, get_or-numbers_below}
 use Rattle.spd_plain.proofs.TreeValues.{table_nonnegative}
@@ -75,15 +75,18 @@ module _ (m : Process) (law : IsLawful m) (no_sum : first_wrong_sum m ≡ None) 
     near_state : rank (sizes m) s < length (states (sizes m))
     near_state = omega (arith, rank_below (sizes m) s state, length-states (sizes m))
 
-    sum_right : (i : ℕ) → i < length m.vars → sum_of m a i s ≡ one
-    sum_right i near =
+    sum_right : (i : ℕ) → i < length m.vars → (rest : List ℕ) → IsState (sizes_after m i) rest → sum_of m a s i rest ≡ one
+    sum_right i near rest later =
         let P = λ (x : Sum). not (int_eq x.sum one) ≡ false in
         let here : All P (sums_after m (acts.0, a)) = subst (λ x. All P (sums_after m x)) at_action (All-flat_map P (sums_after m) (enumerate_from 0 m.actions) sums_right acts.0 (acts.0, a) near_action) in
-        let images = λ (i : ℕ). map (λ (s : List ℕ). let x : Sum = record { action = acts.0; var = i; state = s; sum = sum_of m a i s } in x) (states (sizes m)) in
+        let at_state = λ (i : ℕ) (s : List ℕ). map (λ (rest : List ℕ). let x : Sum = record { action = acts.0; var = i; state = s; sum = sum_of m a s i rest } in x) (states (sizes_after m i)) in
+        let images = λ (i : ℕ). flat_map (at_state i) (states (sizes m)) in
         let row : All P (images i) = subst (λ j. All P (images j)) (get_or-numbers_below (length m.vars) i near)
         (All-flat_map P images (numbers_below (length m.vars)) here i 0 (omega (arith, length-numbers_below (length m.vars)))) in
-        let right = All-image P (λ (s : List ℕ). let x : Sum = record { action = acts.0; var = i; state = s; sum = sum_of m a i s } in x) (states (sizes m)) row (rank (sizes m) s) [] near_state in
-        int_eq-true _ _ (not_not _ (subst (λ t. not (int_eq (sum_of m a i t) one) ≡ false) (get_or-states (sizes m) s state) right))
+        let entry : All P (at_state i s) = subst (λ t. All P (at_state i t)) (get_or-states (sizes m) s state) (All-flat_map P (at_state i) (states (sizes m)) row (rank (sizes m) s) [] near_state) in
+        let right = All-image P (λ (rest : List ℕ). let x : Sum = record { action = acts.0; var = i; state = s; sum = sum_of m a s i rest } in x) (states (sizes_after m i)) entry (rank (sizes_after m i) rest) []
+        (omega (arith, rank_below (sizes_after m i) rest later, length-states (sizes_after m i))) in
+        int_eq-true _ _ (not_not _ (subst (λ t. not (int_eq (sum_of m a s i t) one) ≡ false) (get_or-states (sizes_after m i) rest later) right))
 
     reward_right : unsigned_abs (reward_of m a s) ≤ reward_limit
     reward_right =
@@ -94,9 +97,9 @@ module _ (m : Process) (law : IsLawful m) (no_sum : first_wrong_sum m ≡ None) 
 
   pub is_valid : IsValid m
   is_valid = record {
-    chances = λ a acts i near s state v below.
+    chances = λ a acts i near s rest state later v below.
         let action = All-contains (IsAction m) m.actions a law.actions acts in
-        chance_nonnegative m a.tables i i s (slice_set s i v) (λ tree. action.tables i tree near);
-    sums = λ a acts i near s state. sum_right a acts s state i near;
+        chance_nonnegative m a.tables i i s (take i s ++ v ∷ rest) (λ tree. action.tables i tree near);
+    sums = λ a acts i near s rest state later. sum_right a acts s state i near rest later;
     rewards = λ a acts s state. reward_right a acts s state;
   }

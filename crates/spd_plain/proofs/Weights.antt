@@ -7,7 +7,8 @@ use Rattle.spd_scaled.proofs.Ring.{*ℤ_mono, zero-*ℤ}
 use Rattle.spd_scaled.proofs.Magnitude.{IsWithin_mono, IsWithin-*ℤ, IsWithin-weighted_more, fits_within}
 use Rattle.spd_model.specs.Numbers.{sum_below}
 use Rattle.spd_model.specs.Chances.{one}
-use Rattle.spd_plain.specs.Outlooks.{IsDistribution, AreBounded, value_limit}
+use Rattle.spd_model.specs.Turns.{value_limit}
+use Rattle.spd_plain.specs.Outlooks.{IsDistribution, AreBounded}
 
 split_last : (m n : ℕ) → m ≤ suc n → (m ≤ n) ⊎ (m ≡ suc n)
 split_last m n h = grind arith

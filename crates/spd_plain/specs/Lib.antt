@@ -3,4 +3,3 @@ pub mod Outlooks
 pub mod Faults
 pub mod Sweeps
 pub mod Plain
-pub mod Stops

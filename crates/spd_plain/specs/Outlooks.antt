@@ -1,5 +1,5 @@
 -- What an action comes to at a state, as numbers: its reward and the probabilities of the next values.
-use Rattle.std.specs.Prelude.{ℕ, ◌+◌, ◌*◌, ◌^◌, ◌≡◌, ◌<◌, ◌≤◌, All, List, length, map, ℤ, pos, ◌+ℤ◌, ◌*ℤ◌, ◌≤ℤ◌, slice_index, slice_index_or}
+use Rattle.std.specs.Prelude.{ℕ, ◌+◌, ◌*◌, ◌^◌, ◌≡◌, ◌<◌, ◌≤◌, All, List, [], length, map, ℤ, pos, ◌+ℤ◌, ◌*ℤ◌, ◌≤ℤ◌, slice_index, slice_index_or}
 use Rattle.spd_scaled.specs.Scaled.{IsWithin, floor_div, ceil_div}
 use Rattle.spd_model.specs.declared.Side.{Side}
 use Rattle.spd_model.specs.declared.Side.TheVariants.{Above, Below}
@@ -9,6 +9,7 @@ use Rattle.spd_model.specs.Numbers.{numbers_below, sum_below}
 use Rattle.spd_model.specs.States.{sizes, table_of}
 use Rattle.spd_model.specs.Chances.{one, probability, reward_of, reward_limit}
 use Rattle.spd_model.specs.Backup.{Rounding}
+use Rattle.spd_model.specs.Turns.{value_limit}
 use Rattle.spd_plain.specs.declared.outlook.Outlook.{Outlook}
 
 -- the sum of the chance of each next value times what `values` has there
@@ -36,10 +37,6 @@ pub record IsOutlook (outlook : Outlook) : Type 0 where
   pub reward : IsWithin (pos reward_limit) outlook.reward
   pub chances : IsDistribution outlook.chances
 
--- the greatest magnitude of a value at any turn
-abbrev pub value_limit : ℕ
-value_limit = (10 ^ 18 + 1) * 10 ^ 6
-
 -- none of these values passes that magnitude
 pub record AreBounded (values : List ℤ) : Type 0 where
   pub each : (k : ℕ) → IsWithin (pos value_limit) (slice_index_or values k (pos 0))
@@ -53,7 +50,7 @@ pub record AreOutlooks (values : List ℤ) (outlooks : List Outlook) : Type 0 wh
 
 -- what an action comes to at s: its reward, and the probability of each next value of the variable
 abbrev pub outlook_of : Process → List ℕ → Action → Outlook
-outlook_of m s a = record { reward = reward_of m a s; chances = map (probability m a 0 s) (numbers_below (slice_index (sizes m) 0)) }
+outlook_of m s a = record { reward = reward_of m a s; chances = map (λ v. probability m a s 0 v []) (numbers_below (slice_index (sizes m) 0)) }
 
 -- what each action comes to at s
 abbrev pub outlooks_at : Process → List ℕ → List Outlook

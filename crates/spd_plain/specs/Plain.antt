@@ -1,30 +1,29 @@
 -- What value iteration on plain tables ends with.
-use Rattle.std.specs.Prelude.{ℕ, ◌≡◌, length, ℤ, Some, None, MatchResult, Result}
+use Rattle.std.specs.Prelude.{ℕ, ◌≡◌, ◌==◌, length, ℤ, Some, None, MatchResult, Result, slice_index}
+use Rattle.std.specs.Ordering.{int_eq}
 use Rattle.spd_model.specs.Process.{Process}
-use Rattle.spd_model.specs.States.{sizes, table_of, at, state_count, IsState}
+use Rattle.spd_model.specs.States.{sizes, table_of, at, rank, state_count, IsState}
+use Rattle.spd_model.specs.Stops.{Stop}
 use Rattle.spd_model.specs.Chances.{IsValid, first_wrong_sum, first_wide_reward}
 use Rattle.spd_model.specs.Backup.{policy_of}
-use Rattle.spd_model.specs.Turns.{Stop, residual_of, place_of, error_of, stop_of}
+use Rattle.spd_model.specs.Turns.{turn, residual_of, place_of, error_of, stop_of, stop_value}
+use Rattle.spd_model.specs.Reduced.{listed, reduced}
+use Rattle.spd_model.specs.ResultText.{Iterate}
 use Rattle.spd_plain.specs.declared.solve.Plain.{Plain}
 use Rattle.spd_plain.specs.declared.solve.PlainFault.{PlainFault}
 use Rattle.spd_plain.specs.declared.solve.PlainFault.TheVariants.{Sum, Range, Memory}
-use Rattle.spd_plain.specs.declared.solve.Stop.{Stop as Stopped}
-
--- where the code stopped, as the stop of the definitions
-abbrev pub stop_record : Stopped → Stop
-stop_record stop = record { turn = stop.turn; why = stop.why; value = stop.value.items }
 
 -- The result: the turn at which the run stops and its table, the table's policy, its residual with the place, and the error.
 abbrev pub plain_of : Process → ℕ → ℤ → Plain
 plain_of m turns span =
     let stop = stop_of m turns span in
-    let w = at (sizes m) stop.value in
+    let w = stop_value m turns span in
     let residual = residual_of m w in
     let place = place_of m w residual in
     record {
       turn = stop.turn;
       why = stop.why;
-      value = stop.value;
+      value = turn m span stop.turn;
       policy = table_of (sizes m) (policy_of m w);
       residual = residual;
       place = place.state;
@@ -32,6 +31,17 @@ plain_of m turns span =
       action = place.action;
       error = error_of m residual;
     }
+
+-- What a result on tables tells: its turn, residual, place and error, and the reduced diagrams of its two tables.
+abbrev pub told_of : Process → Plain → Iterate
+told_of m p = record {
+  turn = p.turn;
+  residual = p.residual;
+  place = record { state = p.place; side = p.side; action = p.action };
+  error = p.error;
+  value = listed int_eq (reduced int_eq (sizes m) (at (sizes m) p.value));
+  policy = listed (λ a b. a == b) (reduced (λ a b. a == b) (sizes m) (λ s. slice_index p.policy (rank (sizes m) s)));
+}
 
 -- The cause of a fault: the model's first wrong sum; where all sums are one, its first reward that passes the limit.
 -- Want of memory has no cause in the model.

@@ -2,11 +2,13 @@
 use Rattle.std.specs.Prelude.{◌≡◌, List, length, map, ℤ}
 use Rattle.spd_model.specs.Process.{Process}
 use Rattle.spd_model.specs.States.{sizes, state_count, at}
+use Rattle.spd_model.specs.Stops.{Stop}
 use Rattle.spd_model.specs.Chances.{IsValid}
 use Rattle.spd_model.specs.Turns.{Place, ranges_of, residual_of}
 use Rattle.spd_plain.specs.declared.outlook.Outlook.{Outlook}
 use Rattle.spd_plain.specs.declared.sweep.Sweep.{Sweep}
 use Rattle.spd_plain.specs.declared.sweep.ResidualPlace.{ResidualPlace}
+use Rattle.spd_plain.specs.declared.solve.Stop.{Stop as Stopped}
 use Rattle.spd_plain.specs.Bounds.{range_of}
 use Rattle.spd_plain.specs.Outlooks.{outlooks_of, AreBounded}
 
@@ -26,3 +28,7 @@ pub record IsSweep (m : Process) (values : List ℤ) (sweep : Sweep) : Type 0 wh
 -- the place of a residual that the code found, as the place of the definitions
 abbrev pub place_record : ResidualPlace → Place
 place_record p = record { state = p.state; side = p.side; action = p.action }
+
+-- where the code stopped, as the stop of the definitions
+abbrev pub stop_record : Stopped → Stop
+stop_record stop = record { turn = stop.turn; why = stop.why }

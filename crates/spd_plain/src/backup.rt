@@ -3,7 +3,8 @@
 ghost use Rattle.std.specs.Prelude.{◌≡◌, ◌≤◌, ◌<◌, ◌*◌, length, map, pos, All};
 ghost use Rattle.spd_scaled.specs.Scaled.{IsWithin, floor_div as floor_of, ceil_div as ceil_of};
 ghost use Rattle.spd_model.specs.Numbers.{greatest, first_place};
-ghost use Rattle.spd_plain.specs.Outlooks.{AreBounded, AreOutlooks, IsDistribution, IsOutlook, value_limit, weighted, return_by, rounding_of};
+ghost use Rattle.spd_model.specs.Turns.{value_limit};
+ghost use Rattle.spd_plain.specs.Outlooks.{AreBounded, AreOutlooks, IsDistribution, IsOutlook, weighted, return_by, rounding_of};
 
 use crate::outlook::Outlook;
 use crate::ranges::Bounds;

@@ -2,7 +2,6 @@
 #![tactic(auto)]
 
 mod backup;
-mod law;
 mod outlook;
 mod ranges;
 mod scales;
@@ -13,5 +12,4 @@ mod sweep;
 mod tests;
 mod validity;
 
-pub use law::{law_bounded, law_stop};
 pub use solve::{Plain, PlainFault, plain_solve};

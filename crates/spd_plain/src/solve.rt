@@ -4,10 +4,11 @@ ghost use Rattle.std.specs.Prelude.{◌≡◌, ◌-◌, ◌≤◌, ◌^◌, leng
 ghost use Rattle.spd_scaled.specs.Scaled.{IsWithin};
 ghost use Rattle.spd_model.specs.Chances.{IsValid};
 ghost use Rattle.spd_model.specs.States.{sizes, at};
-ghost use Rattle.spd_model.specs.Turns.{stops_at, error_of as error_of_residual, stop_of};
-ghost use Rattle.spd_plain.specs.Outlooks.{outlooks_of, value_limit};
-ghost use Rattle.spd_plain.specs.Sweeps.{CanSweep, IsSweep};
-ghost use Rattle.spd_plain.specs.Plain.{plain_of, stop_record, Cause, IsShaped, IsPlaced, IsInvalid};
+ghost use Rattle.spd_model.specs.Turns.{stops_at, error_of as error_of_residual, turn as turn_of, stop_of};
+ghost use Rattle.spd_model.specs.ResultText.{result_of};
+ghost use Rattle.spd_plain.specs.Outlooks.{outlooks_of};
+ghost use Rattle.spd_plain.specs.Sweeps.{CanSweep, IsSweep, stop_record};
+ghost use Rattle.spd_plain.specs.Plain.{plain_of, told_of, Cause, IsShaped, IsPlaced, IsInvalid};
 
 use crate::outlook::{Outlook, tabulate};
 use crate::ranges::merge_ranges;
@@ -112,6 +113,7 @@ fn run_turns(
     requires span_low { pos 0 ≤ℤ span }
     requires span_high { span ≤ℤ pos (10 ^ 30) }
     ensures stop { IfOk result (λ stop. stop_record stop ≡ stop_of model.now turns span) }
+    ensures table { IfOk result (λ stop. stop.value.items ≡ turn_of model.now span stop.turn) }
     ensures values { IfOk result (λ stop. CanSweep model.now rows.now stop.value.items) }
     ensures sweep { IfOk result (λ stop. IsSweep model.now stop.value.items stop.sweep) }
 {
@@ -199,6 +201,7 @@ pub fn plain_solve(
     requires span_high { span ≤ℤ pos (10 ^ 30) }
     ensures valid { OnOk result (IsValid model.now) }
     ensures solved { IfOk result (λ p. p ≡ plain_of model.now turns span) }
+    ensures told { IfOk result (λ p. told_of model.now p ≡ result_of model.now turns span) }
     ensures cause { Cause model.now result }
     ensures shaped { IfOk result (IsShaped model.now) }
     ensures placed { IfErr result (IsPlaced model.now) }

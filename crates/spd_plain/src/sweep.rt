@@ -8,9 +8,9 @@ ghost use Rattle.spd_model.specs.declared.Side.TheVariants.{Above, Below};
 ghost use Rattle.spd_model.specs.States.{sizes, states, at, table_of, state_count as state_count_of};
 ghost use Rattle.spd_model.specs.Chances.{IsValid};
 ghost use Rattle.spd_model.specs.Backup.{policy_of};
-ghost use Rattle.spd_model.specs.Turns.{start_of, place_of, state_of_residual};
+ghost use Rattle.spd_model.specs.Turns.{value_limit, start_of, place_of, state_of_residual};
 ghost use Rattle.spd_plain.specs.Bounds.{IsSmall};
-ghost use Rattle.spd_plain.specs.Outlooks.{outlooks_of, value_limit, AreBounded};
+ghost use Rattle.spd_plain.specs.Outlooks.{outlooks_of, AreBounded};
 ghost use Rattle.spd_plain.specs.Sweeps.{CanSweep, IsSweep, place_record};
 
 use crate::backup::{best_action, best_bounds, best_reward};

@@ -42,6 +42,7 @@ fn one_state(alloc: Global, chance: i128, reward: i128) -> Result<Model, AllocEr
         reward: parts,
         discount: 500_000,
         tolerance: 100_000_000,
+        horizon: None,
     })
 }
 

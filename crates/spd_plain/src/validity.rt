@@ -1,6 +1,6 @@
 //! Whether a model is valid: its probabilities sum to one, and its rewards keep their limit.
 
-ghost use Rattle.std.specs.Prelude.{◌≡◌, ◌<◌, ◌≤◌, ◌*◌, ◌^◌, length, map, find, pos, not, nat_le, unsigned_abs, slice_index, Contains, All, option_map, IsTrue};
+ghost use Rattle.std.specs.Prelude.{◌≡◌, ◌<◌, ◌≤◌, ◌*◌, ◌^◌, length, map, find, pos, not, nat_le, unsigned_abs, slice_index, [], Contains, All, option_map, IsTrue};
 ghost use Rattle.std.specs.Ordering.{int_eq};
 ghost use Rattle.spd_scaled.specs.Scaled.{IsWithin, floor_div as floor_of};
 ghost use Rattle.spd_model.specs.Numbers.{total};
@@ -40,7 +40,7 @@ pub(crate) fn chance(model: &Model, action: &Action, s: &State, value: usize) ->
     requires action { Contains model.now.actions action.now }
     requires state { IsState (sizes model.now) s.now }
     requires value { value < slice_index (sizes model.now) 0 }
-    ensures value { result ≡ probability model.now action.now 0 s.now value }
+    ensures value { result ≡ probability model.now action.now s.now 0 value [] }
     ensures within { IsWithin (pos (10 ^ 30)) result }
 {
     // Reading a field tells the proof what every model keeps.
@@ -54,7 +54,7 @@ fn chance_sum(model: &Model, action: &Action, s: &State) -> i128
     requires one_variable { length model.now.vars ≡ 1 }
     requires action { Contains model.now.actions action.now }
     requires state { IsState (sizes model.now) s.now }
-    ensures { result ≡ sum_of model.now action.now 0 s.now }
+    ensures { result ≡ sum_of model.now action.now s.now 0 [] }
 {
     let mut sum = 0;
     for value in 0..state_count(model) {

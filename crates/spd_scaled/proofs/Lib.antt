@@ -1,6 +1,3 @@
-pub mod Ring
-pub mod DivisionLaws
-pub mod Magnitude
+pub mod CallerLemmas
 mod TowardZero
-pub mod UnitsLaws
 mod Rows

@@ -2,8 +2,8 @@
 use Rattle.std.proofs.Common.{◌≡◌, ℕ, zero, suc, ◌/◌, ◌%◌, ◌<◌, ◌≤◌, ℤ, pos, negsuc, neg_ℤ, ◌+ℤ◌, ◌-ℤ◌, ◌*ℤ◌, ◌≤ℤ◌, ◌<ℤ◌, arith, sym, subst, int_div, int_rem, unsigned_abs, FitsSigned}
 use Rattle.std.proofs.lemmas.Int.{ints, quot-rem, rem_below}
 use native.Mathlib.Nat.{div-add-mod', div-le_self, mul-le-mul_left}
-use Rattle.spd_scaled.proofs.Ring.{+ℤ-*ℤ, -ℤ-*ℤ}
-use Rattle.spd_scaled.proofs.DivisionLaws.{floor_div_unique, ceil_div_unique, floor_div_at_most, floor_div_next_above, ceil_div_at_least, ceil_div_last_below, IsWithin-floor_div, IsWithin-ceil_div}
+use Rattle.spd_scaled.proofs.CallerLemmas.Ring.{+ℤ-*ℤ, -ℤ-*ℤ}
+use Rattle.spd_scaled.proofs.CallerLemmas.DivisionLaws.{floor_div_unique, ceil_div_unique, floor_div_at_most, floor_div_next_above, ceil_div_at_least, ceil_div_last_below, IsWithin-floor_div, IsWithin-ceil_div}
 use mir.Syntax.{Width}
 use Rattle.spd_scaled.specs.Scaled.{floor_div, ceil_div, IsWithin}
 

@@ -4,7 +4,7 @@ use mir.Syntax.{w128}
 use Rattle.spd_scaled.specs.Scaled.{IsWithin}
 use Rattle.spd_model.specs.Numbers.{sum_below}
 use Rattle.spd_model.specs.Chances.{one}
-use Rattle.spd_plain.specs.Outlooks.{value_limit}
+use Rattle.spd_model.specs.Turns.{value_limit}
 use Rattle.spd_plain.proofs.Weights.{term_fits, next_sum, next_fits, part_within}
 use Rattle.spd_plain.proofs.backup.weighted_sum.Goals as goal
 

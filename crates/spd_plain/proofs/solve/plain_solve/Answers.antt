@@ -7,6 +7,7 @@ use Rattle.spd_plain.specs.Faults.{sum_record, reward_record}
 use Rattle.spd_plain.proofs.Shapes.{plain-shaped, wrong_sum-placed, wide_reward-placed}
 use Rattle.spd_plain.proofs.Invalid.{wrong_sum-invalid, wide_reward-invalid}
 use Rattle.spd_plain.proofs.Valid.{is_valid}
+use Rattle.spd_plain.proofs.Told.{told_is}
 use Rattle.spd_plain.proofs.solve.plain_solve.Goals as goal
 
 pub solve_valid-requires-clause-valid : goal.solve_valid-requires-clause-valid
@@ -41,3 +42,7 @@ returns-in-Some-clause-invalid c = wrong_sum-invalid c.args.model.now (sum_recor
 pub returns-in-Some-first_wide_reward-clause-invalid : goal.returns-in-Some-first_wide_reward-clause-invalid
 returns-in-Some-first_wide_reward-clause-invalid c =
     wide_reward-invalid c.args.model.now (reward_record c.in-Some-first_wide_reward.wide) (sym c.in-Some-first_wide_reward.ensures)
+
+pub returns-clause-told : goal.returns-clause-told
+returns-clause-told c =
+    told_is c.args.model.now c.args.turns c.args.span _ (c.in_ok-solve_valid.ensures ∙ ap (plain_of c.args.model.now c.args.turns) (to_z-of_z w128 c.args.span c.ranges.span))

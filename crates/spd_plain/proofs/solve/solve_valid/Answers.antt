@@ -5,9 +5,10 @@ use Rattle.spd_scaled.specs.Scaled.{IsWithin}
 use Rattle.spd_model.specs.Process.{Process}
 use Rattle.spd_model.specs.States.{sizes, at, table_of}
 use Rattle.spd_model.specs.Backup.{policy_of}
-use Rattle.spd_model.specs.Turns.{Stop, residual_of, place_of, error_of, stop_of}
+use Rattle.spd_model.specs.Turns.{turn, residual_of, place_of, error_of, stop_of}
+use Rattle.spd_model.specs.Stops.{Stop}
 use Rattle.spd_plain.specs.declared.solve.Plain.{Plain}
-use Rattle.spd_plain.specs.Plain.{stop_record}
+use Rattle.spd_plain.specs.Sweeps.{stop_record}
 use Rattle.spd_model.specs.Lawful.{IsLawful}
 use Rattle.spd_plain.proofs.Runs.{residual_within}
 use Rattle.spd_plain.proofs.solve.solve_valid.Goals as goal
@@ -20,16 +21,16 @@ error_of-requires c =
     simp to_z-of_z (subst (IsWithin _) (sym c.in_ok-stop.ensures.sweep.residual)
     (residual_within m law c.requires.valid c.in_ok-stop.stop.value.items c.in_ok-stop.ensures.values.bounded))
 
--- the result of a run that stopped so
-abbrev plain_at : Process → Stop → Plain
-plain_at m stop =
-    let w = at (sizes m) stop.value in
+-- the result of a run that stopped so, with this table
+abbrev plain_at : Process → Stop → List ℤ → Plain
+plain_at m stop table =
+    let w = at (sizes m) table in
     let residual = residual_of m w in
     let place = place_of m w residual in
     record {
       turn = stop.turn;
       why = stop.why;
-      value = stop.value;
+      value = table;
       policy = table_of (sizes m) (policy_of m w);
       residual = residual;
       place = place.state;
@@ -60,7 +61,7 @@ returns c =
       side = c.residual_place-place.result.side;
       action = c.residual_place-place.result.action;
       error = c.error_of.result;
-    }) (plain_at m (stop_record s)) = λ i. record {
+    }) (plain_at m (stop_record s) s.value.items) = λ i. record {
       turn = s.turn;
       why = s.why;
       value = c.from_vec.ensures i;
@@ -71,4 +72,5 @@ returns c =
       action = (place i).action;
       error = (error ∙ ap (error_of m) residual) i;
     } in
-    simp to_z-of_z (parts ∙ ap (plain_at m) stop)
+    let table = c.in_ok-stop.ensures.table ∙ (λ i. turn m (to_z-of_z w128 c.args.span c.ranges.span i) (stop i).turn) in
+    simp to_z-of_z (parts ∙ (λ i. plain_at m (stop i) (table i)))

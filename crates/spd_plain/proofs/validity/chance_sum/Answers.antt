@@ -1,4 +1,4 @@
-use Rattle.std.proofs.Common.{rules, ◌^◌, FitsSigned, arith, suc, add-one}
+use Rattle.std.proofs.Common.{[], rules, ◌^◌, FitsSigned, arith, suc, add-one}
 use Rattle.std.proofs.lemmas.Int.{to_z-of_z}
 use mir.Syntax.{w128}
 use Rattle.spd_model.specs.Chances.{probability}
@@ -11,6 +11,6 @@ loop-value-preserved c =
     let within = within_more c.loop-value.value (10 ^ 30) _ c.chance-sum.result c.loop-value.invariant.within c.chance-sum.ensures.within in
     let fits = sum_fits (suc c.loop-value.value) _ (omega arith) (rw add-one at within) in
     record {
-      sum = simp to_z-of_z (sum_below_more (probability c.args.model.now c.args.action.now 0 c.args.s.now) c.loop-value.value _ _ c.loop-value.invariant.sum c.chance-sum.ensures.value);
+      sum = simp to_z-of_z (sum_below_more (λ v. probability c.args.model.now c.args.action.now c.args.s.now 0 v []) c.loop-value.value _ _ c.loop-value.invariant.sum c.chance-sum.ensures.value);
       within = simp to_z-of_z within;
     }

@@ -1,6 +1,6 @@
 use Rattle.std.proofs.Common.{◌≤◌, ◌++◌, length, take, ℕ, List, ap, arith, rules, ◌∙◌}
 use Rattle.spd_scaled.specs.Units.{last_digits}
-use Rattle.spd_scaled.proofs.UnitsLaws.{padded_text, length-last_digits, without_first}
+use Rattle.spd_scaled.proofs.CallerLemmas.UnitsLaws.{padded_text, length-last_digits, without_first}
 use Rattle.spd_scaled.proofs.text.put_places.Goals as goal
 
 pub slice_bounds-put-count : goal.slice_bounds-put-count

@@ -3,7 +3,7 @@ use Rattle.spd_model.specs.declared.tree.Tree.{Tree}
 use Rattle.spd_model.specs.Process.{Process}
 use Rattle.spd_model.specs.Lawful.{IsLawful}
 use Rattle.spd_model.specs.States.{sizes}
-use Rattle.spd_model.proofs.TreeLaws.{name_near, name_reaches, name_nearer, IsState-followed, var_near, value_near, branch_reaches, branch_nearer}
+use Rattle.spd_model.proofs.Walks.{name_near, name_reaches, name_nearer, IsState-followed, var_near, value_near, branch_reaches, branch_nearer}
 use Rattle.spd_model.proofs.process.Model.value.Goals as goal
 
 pub bounds-as_slice-diagram : goal.bounds-as_slice-diagram

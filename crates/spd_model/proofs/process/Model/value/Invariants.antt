@@ -1,4 +1,4 @@
-use Rattle.spd_model.proofs.TreeLaws.{Reaches, distance}
+use Rattle.spd_model.proofs.Walks.{Reaches, distance}
 use Rattle.spd_model.proofs.process.Model.value.Given as goal
 
 abbrev pub invariant-loop-reached : goal.invariant-loop-reached

@@ -4,7 +4,7 @@
 use Rattle.std.proofs.Common.{◌≡◌, ◌<◌, ℤ, pos, negsuc, neg_ℤ, ◌+ℤ◌, ◌*ℤ◌, ◌≤ℤ◌, ◌<ℤ◌, arith, sym}
 use Rattle.std.proofs.lemmas.Int.{ints}
 use native.Mathlib.Nat.{div-add-mod', mod-lt}
-use Rattle.spd_scaled.proofs.Ring.{neg_ℤ-*ℤ, +ℤ-*ℤ, *ℤ_cancel_within, ≤ℤ_antisymm}
+use Rattle.spd_scaled.proofs.CallerLemmas.Ring.{neg_ℤ-*ℤ, +ℤ-*ℤ, *ℤ_cancel_within, ≤ℤ_antisymm}
 use Rattle.spd_scaled.specs.Scaled.{floor_div, ceil_div, IsWithin}
 
 -- ---- the bounds

@@ -1,7 +1,7 @@
 -- Sums over the numbers below a bound, and over all states.
 use Rattle.std.proofs.Common.{◌≡◌, ℕ, zero, suc, ◌<◌, List, [], ◌∷◌, ℤ, pos, ◌+ℤ◌, ◌*ℤ◌, ◌≤ℤ◌, refl, ap, sym, ◌∙◌, arith}
 use Rattle.std.proofs.lemmas.Int.{ints}
-use Rattle.spd_scaled.proofs.Ring.{ring, *ℤ-zero, *ℤ-+ℤ, *ℤ_swap}
+use Rattle.spd_scaled.proofs.CallerLemmas.Ring.{ring, *ℤ-zero, *ℤ-+ℤ, *ℤ_swap}
 use Rattle.spd_model.specs.Numbers.{sum_below}
 use Rattle.spd_model.specs.States.{IsState, sum_over_states}
 

@@ -4,7 +4,7 @@ use Rattle.std.proofs.lemmas.Int.{ints, fits_signed_from_abs, unsigned_abs-mul}
 use native.Mathlib.Nat.{mul-le-mul}
 use mir.Syntax.{Width}
 use mir.Val.{hbits}
-use Rattle.spd_scaled.proofs.Ring.{+ℤ-*ℤ, *ℤ-neg_ℤ, *ℤ_mono_right}
+use Rattle.spd_scaled.proofs.CallerLemmas.Ring.{+ℤ-*ℤ, *ℤ-neg_ℤ, *ℤ_mono_right}
 use Rattle.spd_scaled.specs.Scaled.{IsWithin}
 
 pub IsWithin_zero : (c : ℤ) → pos 0 ≤ℤ c → IsWithin c (pos 0)

@@ -1,0 +1,9 @@
+-- What callers' proofs cite of the definitions: lists and sums, the order of the states, tables, trees, what is first, validity.
+pub mod Lists
+pub mod Sums
+pub mod Finds
+pub mod Greatest
+pub mod StateOrder
+pub mod Trees
+pub mod TreeValues
+pub mod Validity
