@@ -7,10 +7,6 @@ use Rattle.spd_edge.specs.Told.{Took}
 use Rattle.spd_edge.proofs.ToldLemmas.{Took-trans}
 use Rattle.spd_solver.specs.Pieces.{joined, TookFront}
 
--- a fact that holds anyway holds of an error
-pub on_err : {T E P : Type 0} (r : Result T E) → P → OnErr r P
-on_err (Ok x) p = tt
-on_err (Err e) p = p
 
 -- the text of all pieces: of the first k, of the next one, of the others
 pub joined-split : (pieces : List (Bor (List ℕ))) (k : ℕ) (d : Bor (List ℕ)) → k < length pieces

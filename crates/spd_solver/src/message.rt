@@ -1,8 +1,6 @@
 //! The number and the message of a status.
-ghost use Rattle.std.specs.Prelude.{◌≡◌, ◌≤◌, OnOk, OnErr};
-ghost use Rattle.spd_edge.specs.Counts.{Rose};
-ghost use Rattle.spd_edge.specs.Told.{Took};
-ghost use Rattle.spd_solver.specs.Pieces.{TookFront};
+ghost use Rattle.std.specs.Prelude.{◌≡◌, ◌≤◌};
+ghost use Rattle.spd_solver.specs.Pieces.{Wrote, Counted};
 ghost use Rattle.spd_solver.specs.Message.{number_of, sum_message, range_message, message_of};
 
 use crate::pieces::write_pieces;
@@ -38,10 +36,8 @@ fn write_sum<'a, K: Sink>(
     state: &'a [u8],
     sum: &'a [u8],
 ) -> Result<(), Failed>
-    ensures whole { OnOk result (Took (K.taken k.old) (sum_message action.now var.now state.now sum.now) (K.taken k.new)) }
-    ensures ok { OnOk result (K.faults k.new ≡ K.faults k.old) }
-    ensures front { OnErr result (TookFront (K.taken k.old) (sum_message action.now var.now state.now sum.now) (K.taken k.new)) }
-    ensures failed { OnErr result (Rose (K.faults k.old) (K.faults k.new)) }
+    ensures text { Wrote (K.taken k.old) (sum_message action.now var.now state.now sum.now) result (K.taken k.new) }
+    ensures count { Counted (K.faults k.old) result (K.faults k.new) }
     ensures never_falls { K.faults k.old ≤ K.faults k.new }
     ensures named { K.name k.new ≡ K.name k.old }
 {
@@ -68,10 +64,8 @@ fn write_range<'a, K: Sink>(
     state: &'a [u8],
     value: &'a [u8],
 ) -> Result<(), Failed>
-    ensures whole { OnOk result (Took (K.taken k.old) (range_message action.now state.now value.now) (K.taken k.new)) }
-    ensures ok { OnOk result (K.faults k.new ≡ K.faults k.old) }
-    ensures front { OnErr result (TookFront (K.taken k.old) (range_message action.now state.now value.now) (K.taken k.new)) }
-    ensures failed { OnErr result (Rose (K.faults k.old) (K.faults k.new)) }
+    ensures text { Wrote (K.taken k.old) (range_message action.now state.now value.now) result (K.taken k.new) }
+    ensures count { Counted (K.faults k.old) result (K.faults k.new) }
     ensures never_falls { K.faults k.old ≤ K.faults k.new }
     ensures named { K.name k.new ≡ K.name k.old }
 {
@@ -95,10 +89,8 @@ fn write_range<'a, K: Sink>(
 ///
 /// `Failed` where a write failed: the sink then took the front of the message.
 pub fn write_message<K: Sink>(status: &Status, k: &mut K) -> Result<(), Failed>
-    ensures whole { OnOk result (Took (K.taken k.old) (message_of status.now) (K.taken k.new)) }
-    ensures ok { OnOk result (K.faults k.new ≡ K.faults k.old) }
-    ensures front { OnErr result (TookFront (K.taken k.old) (message_of status.now) (K.taken k.new)) }
-    ensures failed { OnErr result (Rose (K.faults k.old) (K.faults k.new)) }
+    ensures text { Wrote (K.taken k.old) (message_of status.now) result (K.taken k.new) }
+    ensures count { Counted (K.faults k.old) result (K.faults k.new) }
     ensures never_falls { K.faults k.old ≤ K.faults k.new }
     ensures named { K.name k.new ≡ K.name k.old }
 {
