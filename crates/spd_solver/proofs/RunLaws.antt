@@ -10,7 +10,7 @@ use Rattle.spd_model.specs.Process.{Process}
 use Rattle.spd_model.specs.Chances.{IsValid}
 use Rattle.spd_model.specs.Turns.{stop_of}
 use Rattle.spd_model.specs.ResultText.{Iterate, text_of}
-use Rattle.spd_solver.specs.Stub.{told}
+use Rattle.spd_frozen.specs.Told.{told}
 use Rattle.spd_model.specs.declared.options.Options.{Options}
 use Rattle.spd_solver.specs.declared.solving.Solution.{Solution}
 use Rattle.spd_solver.specs.declared.solving.Unsolved.{Unsolved}
@@ -24,7 +24,7 @@ use Rattle.spd_solver.specs.Describes.{Describes}
 use Rattle.spd_solver.specs.Kind.{Kind, whole, kind_of}
 use Rattle.spd_solver.specs.Pieces.{TookFront}
 use Rattle.spd_solver.specs.Run.{Ends, Accepts, Completes, Seen, ReadsCalmly, IsUnwritten, Means}
-use Rattle.spd_solver.specs.Solve.{residual, IsFileOf, IsSolved, TellsStop, RefusesProcess}
+use Rattle.spd_solver.specs.Solve.{residual, IsFileOf, TellsStop, HasFewStates, RefusesProcess}
 use Rattle.spd_solver.specs.inner.Stages.{IsSolution, finished_status, unread_status, unsolved_status}
 use Rattle.spd_solver.proofs.SmallReadLaws.{one_process}
 
@@ -49,7 +49,7 @@ finished_whole Why.Done r = refl
 finished_whole Why.Limit r = refl
 
 pub finished_complete : (x : Solution) (command : Command) (held : List ℕ → Option (List ℕ)) → Completes (kind_of (finished_status x)) command held
-finished_complete x command held = subst (λ (k : Kind). Completes k command held) (sym (finished_whole x.why x.iterate.residual)) tt
+finished_complete x command held = subst (λ (k : Kind). Completes k command held) (sym (finished_whole x.why x.iterate.residual.r)) tt
 
 -- a file of this name was read, and nothing was written
 pub record IsRead (file bytes : List ℕ) (before now : Seen) : Type 0 where
@@ -72,6 +72,8 @@ module _ (file bytes : List ℕ) (options : Options) (before now : Seen) (read :
 
   pub unsolved_means : (m : Process) → Describes bytes m → (why : Unsolved) → RefusesProcess m (unsolved_status why) → IsUnwritten before now
       → Means (kind_of (unsolved_status why)) (solve file options) (unsolved_status why) before now
+  unsolved_means m is (Unsolved.TooManyStates product) cause unwritten =
+      (held_of (before.inputs.holds file) bytes _ read.held (m, record { short = read.short; describes = is }, cause), unwritten, read.calm)
   unsolved_means m is (Unsolved.Sum action var state sum) cause unwritten =
       (held_of (before.inputs.holds file) bytes _ read.held (m, record { short = read.short; describes = is }, cause), unwritten, read.calm)
   unsolved_means m is (Unsolved.Range action state value) cause unwritten =
@@ -84,18 +86,19 @@ module _ (file bytes : List ℕ) (options : Options) (before now : Seen) (read :
       cause refl accepts.1 (subst (λ (b : List ℕ). Describes b accepts.1) (sym (same_bytes (before.inputs.holds file) bytes accepts.0 read.held accepts.2)) accepts.3.describes)
   unread_complete Unread.Memory cause = tt
 
-  valid_process : (m : Process) → Describes bytes m → Accepts (solve file options) before.inputs.holds → IsValid m
-  valid_process m is accepts =
+  -- the process that was read is the accepted one
+  accepted : (m : Process) → Describes bytes m → Accepts (solve file options) before.inputs.holds → IsValid m × HasFewStates m
+  accepted m is accepts =
       let same = same_bytes (before.inputs.holds file) bytes accepts.0 read.held accepts.2 in
-      subst IsValid (one_process bytes accepts.1 m (subst (λ (b : List ℕ). Describes b accepts.1) (sym same) accepts.3.describes) is) accepts.4
+      subst (λ (n : Process). IsValid n × HasFewStates n) (one_process bytes accepts.1 m (subst (λ (b : List ℕ). Describes b accepts.1) (sym same) accepts.3.describes) is)
+      (accepts.4, accepts.5)
 
   pub unsolved_complete : (m : Process) → Describes bytes m → (why : Unsolved) → RefusesProcess m (unsolved_status why)
       → Completes (kind_of (unsolved_status why)) (solve file options) before.inputs.holds
-  unsolved_complete m is (Unsolved.Sum action var state sum) cause = λ accepts. cause.3 (valid_process m is accepts)
-  unsolved_complete m is (Unsolved.Range action state value) cause = λ accepts. cause.4 (valid_process m is accepts)
+  unsolved_complete m is (Unsolved.TooManyStates product) cause = λ accepts. absurd (omega (arith, cause.0, (accepted m is accepts).1))
+  unsolved_complete m is (Unsolved.Sum action var state sum) cause = λ accepts. cause.4 (accepted m is accepts).0
+  unsolved_complete m is (Unsolved.Range action state value) cause = λ accepts. cause.5 (accepted m is accepts).0
   unsolved_complete m is Unsolved.Memory cause = tt
-
-  -- ---- what is solved
 
   module _ (digest : List ℕ) (named : digest ≡ sha256 bytes) (m : Process) (x : Solution) (is : Describes bytes m) (h : IsSolution m options x) where
     ended : Ends (solve file options) before.inputs.holds (finished_status x) (text_of digest m x.why (told x.iterate))
@@ -103,7 +106,7 @@ module _ (file bytes : List ℕ) (options : Options) (before now : Seen) (read :
       process = m;
       file = record { short = read.short; describes = is };
       valid = h.valid;
-      stop = tells_stop m options x.why x.iterate.residual h.why (ap (λ (i : Iterate). i.residual) h.iterate);
+      stop = tells_stop m options x.why x.iterate.residual.r h.why (ap (λ (i : Iterate). i.residual) h.iterate);
       written = (λ i. text_of (named i) m (h.why i) (h.iterate i));
       near_optimal = h.near_optimal;
     })
@@ -115,6 +118,6 @@ module _ (file bytes : List ℕ) (options : Options) (before now : Seen) (read :
     pub whole_means : Took before.taken (text_of digest m x.why (told x.iterate)) now.taken → now.faults ≡ before.faults
         → Means (kind_of (finished_status x)) (solve file options) (finished_status x) before now
     whole_means took same =
-        subst (λ (k : Kind). Means k (solve file options) (finished_status x) before now) (sym (finished_whole x.why x.iterate.residual))
+        subst (λ (k : Kind). Means k (solve file options) (finished_status x) before now) (sym (finished_whole x.why x.iterate.residual.r))
         (text_of digest m x.why (told x.iterate), ended, took, same, read.calm)
 

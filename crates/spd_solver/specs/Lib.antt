@@ -12,4 +12,3 @@ pub mod Describes
 pub mod Kind
 pub mod Solve
 pub mod inner
-pub mod Stub

@@ -11,7 +11,7 @@ use Rattle.spd_solver.specs.declared.status.Status.TheVariants.{OpenFault, ReadF
 use Rattle.spd_solver.specs.Command.{Command, solve}
 use Rattle.spd_solver.specs.Kind.{Kind, whole, cut, refusal, outside, memory, usage}
 use Rattle.spd_solver.specs.Pieces.{TookFront}
-use Rattle.spd_solver.specs.Solve.{file_limit, IsFileOf, IsSolved, RefusesFile}
+use Rattle.spd_solver.specs.Solve.{file_limit, IsFileOf, IsSolved, HasFewStates, RefusesFile}
 
 -- the bytes that a place holds under each name, where it tells them
 abbrev pub Held : Type 0
@@ -34,7 +34,7 @@ Refuses (solve file options) held status = IfSome (held file) (λ bytes. Refuses
 
 -- A command's files are as they should be.
 abbrev pub Accepts : Command → Held → Type 0
-Accepts (solve file options) held = (bytes : List ℕ) × (m : Process) × (held file ≡ Some bytes) × IsFileOf bytes m × IsValid m
+Accepts (solve file options) held = (bytes : List ℕ) × (m : Process) × (held file ≡ Some bytes) × IsFileOf bytes m × IsValid m × HasFewStates m
 
 -- ---- what each kind of end means, whatever the command is
 

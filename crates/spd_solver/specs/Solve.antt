@@ -4,13 +4,15 @@ use Rattle.std.specs.List.{join_with_byte}
 use Rattle.sha2.specs.Sha256.{sha256}
 use Rattle.spd_model.specs.declared.Why.TheVariants as Why
 use Rattle.spd_model.specs.Process.{Process}
+use Rattle.spd_model.specs.States.{sizes, state_count}
 use Rattle.spd_model.specs.Chances.{IsValid, Sum, first_wrong_sum, Reward, first_wide_reward}
 use Rattle.spd_model.specs.Turns.{residual_of, stop_of, stop_value}
 use Rattle.spd_model.specs.ResultText.{action_name, var_name, state_words, result_text}
-use Rattle.spd_solver.specs.Stub.{IsNearOptimal}
+use Rattle.spd_plain.specs.Space.{state_limit, first_large_product}
+use Rattle.spd_bellman.specs.Bound.{IsNearOptimal}
 use Rattle.spd_model.specs.declared.options.Options.{Options}
 use Rattle.spd_solver.specs.declared.status.Status.{Status}
-use Rattle.spd_solver.specs.declared.status.Status.TheVariants.{Done, Refused, Sum as WrongSum, Range as WideReward, TurnLimit, Memory}
+use Rattle.spd_solver.specs.declared.status.Status.TheVariants.{Done, Refused, TooManyStates, Sum as WrongSum, Range as WideReward, TurnLimit, Memory}
 use Rattle.spd_solver.specs.Describes.{Describes}
 
 -- the most bytes that a model file may have
@@ -50,6 +52,10 @@ pub record IsSolved (bytes : List ℕ) (options : Options) (status : Status) (te
 
 -- ---- what is refused
 
+-- a process of no more states than tables are made of
+abbrev pub HasFewStates : Process → Type 0
+HasFewStates m = state_count (sizes m) ≤ state_limit
+
 -- a state in words, parted by spaces
 abbrev pub state_text : Process → List ℕ → List ℕ
 state_text m s = join_with_byte 32 (state_words m s)
@@ -66,13 +72,15 @@ pub record TellsReward (m : Process) (x : Reward) (action state : List ℕ) (val
   pub state_is : state ≡ state_text m x.state
   pub value_is : value ≡ x.value
 
--- Why a process isn't solved: its first sum of probabilities that isn't one; where all are one, its first reward that passes the
--- limit. Want of memory has no cause in the process.
+-- Why a process isn't solved, in this order: it has more states than tables are made of, its first sum of probabilities that isn't
+-- one, its first reward that passes the limit. Want of memory has no cause in the process.
 abbrev pub RefusesProcess : Process → Status → Type 0
+RefusesProcess m (TooManyStates product) = (state_limit < state_count (sizes m)) × (first_large_product m ≡ Some product)
 RefusesProcess m (WrongSum action var state sum) =
-    (x : Sum) × (first_wrong_sum m ≡ Some x) × Tells m x action var state sum × (IsValid m → ⊥)
+    (x : Sum) × HasFewStates m × (first_wrong_sum m ≡ Some x) × Tells m x action var state sum × (IsValid m → ⊥)
 RefusesProcess m (WideReward action state reward) =
-    (x : Reward) × (first_wrong_sum m ≡ None) × (first_wide_reward m ≡ Some x) × TellsReward m x action state reward × (IsValid m → ⊥)
+    (x : Reward) × HasFewStates m × (first_wrong_sum m ≡ None) × (first_wide_reward m ≡ Some x) × TellsReward m x action state reward
+    × (IsValid m → ⊥)
 RefusesProcess m Memory = Unit {0}
 RefusesProcess m _ = ⊥
 

@@ -4,12 +4,14 @@
 mod command;
 mod file;
 mod message;
+mod names;
 mod pieces;
 mod run;
 mod small;
 mod solving;
 mod status;
 mod stub;
+mod tables;
 
 pub use file::FILE_LIMIT;
 pub use message::{number, write_message};

@@ -35,7 +35,7 @@ fn finished(solution: &Solution) -> Status
     match solution.why {
         Why::Done => Status::Done,
         Why::Limit => Status::TurnLimit {
-            residual: solution.iterate.residual,
+            residual: solution.iterate.residual.r,
         },
     }
 }

@@ -90,6 +90,7 @@ impl From<Unsolved> for Status {
 
     fn from(why: Unsolved) -> Status {
         match why {
+            Unsolved::TooManyStates { product } => Status::TooManyStates { product },
             Unsolved::Sum {
                 action,
                 var,

@@ -1,14 +1,19 @@
 -- The stages of a command: what each gives, why it fails, and the status of each failure.
-use Rattle.std.specs.Prelude.{ℕ, ◌<◌, ◌≡◌, List, length, Option, Some, IfSome, Result, Ok, Err}
+use Rattle.std.specs.Prelude.{ℕ, ◌<◌, ◌≡◌, List, ◌++◌, length, map, zip, codes, Option, Some, IfSome, Result, Ok, Err}
 use Rattle.spd_edge.specs.Counts.{Rose}
 use Rattle.spd_edge.specs.Direction.{Direction}
 use Rattle.spd_edge.specs.declared.outside.Stage.TheVariants as Stage
 use Rattle.spd_model.specs.declared.Why.TheVariants as Why
+use Rattle.spd_model.specs.declared.process.Var.{Var}
 use Rattle.spd_model.specs.Process.{Process}
 use Rattle.spd_model.specs.Chances.{IsValid}
 use Rattle.spd_model.specs.Turns.{stop_of}
-use Rattle.spd_model.specs.ResultText.{action_name, var_name, result_of}
-use Rattle.spd_solver.specs.Stub.{told, IsNearOptimal}
+use Rattle.spd_model.specs.ResultText.{action_name, var_name, value_name, result_of}
+use Rattle.spd_bellman.specs.Bound.{IsNearOptimal}
+use Rattle.spd_plain.specs.declared.solve.PlainFault.{PlainFault}
+use Rattle.spd_plain.specs.declared.solve.PlainFault.TheVariants as Fault
+use Rattle.spd_frozen.specs.Fits.{FitsModel}
+use Rattle.spd_frozen.specs.Told.{told}
 use Rattle.spd_solver.specs.declared.solving.Solution.{Solution}
 use Rattle.spd_model.specs.declared.options.Options.{Options}
 use Rattle.spd_solver.specs.declared.command.Command.{Command as Said}
@@ -63,17 +68,33 @@ pub record IsSolution (m : Process) (options : Options) (x : Solution) : Type 0 
   pub why : x.why ≡ (stop_of m options.turns options.span).why
   pub iterate : told x.iterate ≡ result_of m options.turns options.span
   pub near_optimal : IsNearOptimal m (value m options)
+  pub fits : FitsModel m x.iterate
+
+-- a fault of a process, with the names of what is at fault
+abbrev pub told_fault : Process → PlainFault → Unsolved
+told_fault m (Fault.TooManyStates product) = Unsolved.TooManyStates product
+told_fault m (Fault.Sum action var state sum) = Unsolved.Sum (action_name m action) (var_name m var) (state_text m state) sum
+told_fault m (Fault.Range action state value) = Unsolved.Range (action_name m action) (state_text m state) value
+told_fault m Fault.Memory = Unsolved.Memory
 
 abbrev pub unsolved_status : Unsolved → Status
+unsolved_status (Unsolved.TooManyStates product) = Status.TooManyStates product
 unsolved_status (Unsolved.Sum action var state sum) = Status.Sum action var state sum
 unsolved_status (Unsolved.Range action state value) = Status.Range action state value
 unsolved_status Unsolved.Memory = Status.Memory
+
+-- `variable=value`, and that for each of these variables
+abbrev pub assignment : Var → ℕ → List ℕ
+assignment var v = var.name ++ codes "=" ++ value_name var v
+
+abbrev pub assignments : List Var → List ℕ → List (List ℕ)
+assignments vars s = map (λ x. assignment x.0 x.1) (zip vars s)
 
 -- ---- ends
 
 -- how a command ends once the result of its run is written
 abbrev pub finished_status : Solution → Status
-finished_status x = elim x.why [ Why.Done ↦ Status.Done | Why.Limit ↦ Status.TurnLimit x.iterate.residual ]
+finished_status x = elim x.why [ Why.Done ↦ Status.Done | Why.Limit ↦ Status.TurnLimit x.iterate.residual.r ]
 
 -- how a command ended, whether it was finished or not
 abbrev pub ending : Result Status Status → Status
