@@ -20,7 +20,8 @@ use Rattle.spd_nodes.specs.declared.leaf.Leaf.{Leaf}
 use Rattle.spd_nodes.specs.declared.leaf.Leaf.TheVariants.{Num, Pair, Act}
 use Rattle.spd_nodes.specs.contracts.leaf.LeafOrd.TheImpl.{cmp-value}
 use Rattle.spd_nodes.specs.contracts.leaf.LeafOrd.TheImpl.Laws.{total-law}
-use Rattle.spd_nodes.specs.Levels.{slots, passes, InRange, AllPositive}
+use Rattle.spd_model.specs.States.{IsState}
+use Rattle.spd_nodes.specs.Levels.{slots, passes, AllPositive}
 use Rattle.spd_nodes.specs.Trees.{Tree, Ends, Tests, tree_eq, leaf_eq, value_at, join, chain, tree_of, IsNode, Itself, InYes, InNo}
 use Rattle.spd_nodes.specs.States.{point, plain_part, primed_part, test_tree}
 use Rattle.spd_nodes.specs.Shown.{Shown, IsSound, IsWhole, meaning}
@@ -67,7 +68,7 @@ leaf-of_chain a (suc n) j l sub h = elim (leaf-of_join a (sub j) (chain n (j + 1
 -- a function of points has a leaf at some point
 record IsValueOf (ds : List ℕ) (f : List ℕ → Leaf) (a : Leaf) : Type 0 where
   at : List ℕ
-  in_range : InRange ds at
+  in_range : IsState ds at
   value : f at ≡ a
 
 -- a leaf of a function's tree is a value of the function

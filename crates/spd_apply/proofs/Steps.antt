@@ -6,7 +6,7 @@ use Rattle.spd_nodes.specs.Levels.{slots, levels_of}
 use Rattle.spd_nodes.specs.Trees.{Tree, join, CanTest}
 use Rattle.spd_nodes.specs.Shown.{Shown, IsSound, Grows, MakesOnly, KnowsAs, Faults}
 use Rattle.spd_nodes.proofs.ShownLaws.{Within, within-one, grows-none, grows-then, makes-none, makes-within, makes-then, faults-within}
-use Rattle.spd_memo.specs.Kept.{Kept}
+use Rattle.spd_memo.specs.Kept.{KeptAnswers}
 use Rattle.spd_apply.specs.Halves.{pair_rank}
 use Rattle.spd_apply.specs.Rules.{Making, below_tree, below_rank, IsBelow, PlansTest, HoldsAnswers, Did}
 use Rattle.spd_apply.specs.declared.rule.Below.{Below}
@@ -15,11 +15,11 @@ use Rattle.spd_apply.proofs.HalfLaws.{in-yes, in-no}
 use Rattle.spd_apply.proofs.MemoLaws.{answers-grow}
 
 -- nothing was called
-pub did-none : (making : Making) (s : Shown) (u : Tree) (k : Kept) → IsSound s → HoldsAnswers making s k → Did making s s u k
+pub did-none : (making : Making) (s : Shown) (u : Tree) (k : KeptAnswers) → IsSound s → HoldsAnswers making s k → Did making s s u k
 did-none making s u k o h = record { sound = o; grows = grows-none s; makes = makes-none s (u ∷ []); memo = h }
 
 -- one call of the forest
-pub did-call : (making : Making) (s t : Shown) (u : Tree) (k : Kept) → HoldsAnswers making s k → IsSound t → Grows s t → MakesOnly s t (u ∷ []) → Did making s t u k
+pub did-call : (making : Making) (s t : Shown) (u : Tree) (k : KeptAnswers) → HoldsAnswers making s k → IsSound t → Grows s t → MakesOnly s t (u ∷ []) → Did making s t u k
 did-call making s t u k h o g m = record { sound = o; grows = g; makes = m; memo = answers-grow h g }
 
 module _ (making : Making) (s t : Shown) (b : Below) (g : Grows s t) where
@@ -43,7 +43,7 @@ within-yes l y n = within-one y (join l y n ∷ []) (λ x h. inl (in-yes x y n l
 pub within-no : (l : ℕ) (y n : Tree) → Within (n ∷ []) (join l y n ∷ [])
 within-no l y n = within-one n (join l y n ∷ []) (λ x h. inl (in-no x y n l h))
 
-module _ (making : Making) (may : Tree → Tree → Type 0) (s : Shown) (f g : Entry) (l : ℕ) (yes no : Below) (k : Kept)
+module _ (making : Making) (may : Tree → Tree → Type 0) (s : Shown) (f g : Entry) (l : ℕ) (yes no : Below) (k : KeptAnswers)
     (o : IsSound s) (h : HoldsAnswers making s k) (p : PlansTest making may s f g l yes no) where
   abbrev pub Whole : Tree
   Whole = making (s.tree f) (s.tree g)
@@ -60,7 +60,7 @@ module _ (making : Making) (may : Tree → Tree → Type 0) (s : Shown) (f g : E
   no-within : Within (No ∷ []) (Whole ∷ [])
   no-within = rw p.is (within-no l Yes No)
 
-  module _ (t : Shown) (n : Kept) (first : Did making s t Yes n) where
+  module _ (t : Shown) (n : KeptAnswers) (first : Did making s t Yes n) where
     pub did-yes : Did making s t Whole n
     did-yes = record { sound = first.sound; grows = first.grows; makes = makes-within yes-within first.makes; memo = first.memo }
 
@@ -76,7 +76,7 @@ module _ (making : Making) (may : Tree → Tree → Type 0) (s : Shown) (f g : E
     pub no-smaller : 3 * below_rank t no < 3 * pair_rank (slots s.sizes) (s.tree f) (s.tree g) + 1
     no-smaller = let e : below_rank t no ≡ below_rank s no = no-stays.2 in omega (arith, p.no_smaller)
 
-    module _ (v : Shown) (i : Kept) (second : Did making t v (below_tree making t no) i) where
+    module _ (v : Shown) (i : KeptAnswers) (second : Did making t v (below_tree making t no) i) where
       pub did-no : Did making s v Whole i
       did-no = record {
         sound = second.sound;

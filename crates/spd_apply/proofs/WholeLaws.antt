@@ -10,7 +10,7 @@ use Rattle.spd_nodes.specs.States.{Function, point, plain_part, primed_part, tes
 use Rattle.spd_nodes.specs.Shown.{Shown, IsSound, MakesOnly, MakesNodesOf, FaultsAt, Faults, KnowsAs, IsWhole, StandsFor, meaning}
 use Rattle.spd_nodes.proofs.TreeLaws.{tree_of-value_at, tree_of-agree}
 use Rattle.spd_nodes.proofs.StateLaws.{positive-slots, test_tree-value, IsPointOf, point-parts}
-use Rattle.spd_memo.specs.Kept.{Kept}
+use Rattle.spd_memo.specs.Kept.{KeptAnswers}
 use Rattle.spd_apply.specs.Applied.{applied, fit_mark, AllFit, MayApply}
 use Rattle.spd_apply.specs.Outcome.{at_each, FitEverywhere}
 use Rattle.spd_apply.specs.Rules.{HoldsAnswers, IsReady}
@@ -60,7 +60,7 @@ module _ (fits : Leaf → Leaf → Bool) (op : Leaf → Leaf → Leaf) (s : Show
       rw e refl)
       ∙ tree_of-value_at ds 0 (Ends (Act 1)) tt tt
 
-  pub apply-ready : (k : Kept) → FitEverywhere fits s f g → HoldsAnswers (applied op) s k → IsReady (applied op) (MayApply fits s.sizes) s f g k
+  pub apply-ready : (k : KeptAnswers) → FitEverywhere fits s f g → HoldsAnswers (applied op) s k → IsReady (applied op) (MayApply fits s.sizes) s f g k
   apply-ready k h m = record {
     sound = o;
     left = kf;

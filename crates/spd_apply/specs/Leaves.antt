@@ -4,7 +4,8 @@ use Rattle.std.specs.List.{AllPairs}
 use Rattle.std.specs.Ordering.{int_eq}
 use Rattle.spd_nodes.specs.declared.leaf.Leaf.{Leaf}
 use Rattle.spd_nodes.specs.declared.leaf.Leaf.TheVariants.{Num, Pair, Act}
-use Rattle.spd_nodes.specs.States.{Function, IsState}
+use Rattle.spd_model.specs.States.{IsState}
+use Rattle.spd_nodes.specs.States.{Function}
 
 -- whether a leaf stands before another one: each Num before each Pair, and both before each Act; two Num or two Act by their
 -- numbers; two Pair by their first numbers, and where these are equal by their second ones

@@ -1,7 +1,7 @@
 -- How an operation on diagrams goes down: what it makes of two trees, said of the trees below theirs.
 use Rattle.std.specs.Prelude.{◌≡◌, ℕ, ◌+◌, ◌<◌, ◌≤◌, [], ◌∷◌, true, Contains}
 use Rattle.spd_cons_core.specs.declared.key.Entry.{Entry}
-use Rattle.spd_memo.specs.Kept.{Kept}
+use Rattle.spd_memo.specs.Kept.{KeptAnswers}
 use Rattle.spd_nodes.specs.Levels.{levels_of, slots}
 use Rattle.spd_nodes.specs.Trees.{Tree, join, CanTest}
 use Rattle.spd_nodes.specs.Shown.{Shown, IsSound, Grows, MakesOnly}
@@ -66,11 +66,11 @@ pub record IsAnswer (making : Making) (s : Shown) (f g r : Entry) : Type 0 where
   pub is : s.tree r ≡ making (s.tree f) (s.tree g)
 
 -- a memo holds only answers of an operation, for entries that the forest knows
-pub record HoldsAnswers (making : Making) (s : Shown) (k : Kept) : Type 0 where
+pub record HoldsAnswers (making : Making) (s : Shown) (k : KeptAnswers) : Type 0 where
   pub each : (f g r : Entry) → Contains k.pairs ((f, g), r) → IsAnswer making s f g r
 
 -- two known entries may be met, and the memo holds only answers
-pub record IsReady (making : Making) (may : Tree → Tree → Type 0) (s : Shown) (f g : Entry) (k : Kept) : Type 0 where
+pub record IsReady (making : Making) (may : Tree → Tree → Type 0) (s : Shown) (f g : Entry) (k : KeptAnswers) : Type 0 where
   pub sound : IsSound s
   pub left : s.knows f ≡ true
   pub right : s.knows g ≡ true
@@ -78,7 +78,7 @@ pub record IsReady (making : Making) (may : Tree → Tree → Type 0) (s : Shown
   pub memo : HoldsAnswers making s k
 
 -- all that was known stays, only nodes of a tree were made, and the memo holds only answers
-pub record Did (making : Making) (s t : Shown) (u : Tree) (k : Kept) : Type 0 where
+pub record Did (making : Making) (s t : Shown) (u : Tree) (k : KeptAnswers) : Type 0 where
   pub sound : IsSound t
   pub grows : Grows s t
   pub makes : MakesOnly s t (u ∷ [])

@@ -20,22 +20,6 @@ use Rattle.spd_restrict.proofs.SlotLaws.{after-in, first-is}
 use Rattle.spd_restrict.proofs.FixedLaws.{slot-of}
 use Rattle.spd_diagram_rows.specs.PlainRoots.{IsPlainRoot}
 
-slot-test : (sizes : List ℕ) (l var v : ℕ) (primed : Bool) → IsTestOf sizes l var primed v
-    → IsSlot (slots sizes) (slot_of var primed) (level_at sizes var primed 0) (level_at sizes var primed 0 + (get_or sizes var 0 - 1))
-slot-test sizes l var v primed t = slot-of sizes var _ _ primed t.var_in refl refl
-
--- the test of a first value
-pub first-test : (sizes : List ℕ) (l var v : ℕ) (primed : Bool) → IsTestOf sizes l var primed v → v ≡ 0 → is_first (slots sizes) l ≡ true
-first-test sizes l var v primed t z =
-    let e : level_at sizes var primed 0 ≡ l = ap (level_at sizes var primed) (sym z) ∙ t.level_is in
-    let i : is_first (slots sizes) (level_at sizes var primed 0) ≡ true = first-is (slots sizes) (slot_of var primed) _ _ (slot-test sizes l var v primed t) (omega (arith, t.value_in)) in
-    rw e at i
-
--- the end of the tests of a level's variable and kind
-pub end-test : (sizes : List ℕ) (l var v end : ℕ) (primed : Bool) → IsTestOf sizes l var primed v → end ≡ level_at sizes var primed 0 + (get_or sizes var 0 - 1) → end ≡ after (slots sizes) l
-end-test sizes l var v end primed t e =
-    e ∙ sym (after-in (slots sizes) (slot_of var primed) _ _ l (slot-test sizes l var v primed t) (omega (arith, t.level_is)) (omega (arith, t.level_is, t.value_in)))
-
 plain-at : (ds : List ℕ) (l var v : ℕ) → var < length ds → v + 1 < get_or ds var 0 → 2 * levels_of (take var ds) + (get_or ds var 0 - 1) + v ≡ l → is_plain_level ds l ≡ true
 plain-at [] l var v h j e = absurd (omega arith)
 plain-at (d ∷ ds) l zero v h j e =

@@ -1,9 +1,12 @@
 pub mod KeyLaws
 pub mod LayoutLaws
+pub mod MadeLaws
 pub mod RankLaws
 pub mod RefLaws
 pub mod ShownLaws
+pub mod SlotLaws
 pub mod StateLaws
 pub mod StoreLaws
+pub mod TestLaws
 pub mod TreeLaws
 pub mod ValueLaws

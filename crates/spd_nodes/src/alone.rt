@@ -1,3 +1,5 @@
+//! The forest for one thread.
+
 ghost use Rattle.std.specs.Prelude.{◌≡◌, ℕ, ◌+◌, ◌<◌, ◌≤◌, ◌≢◌, ◌↔◌, [], ◌∷◌, IfOk, IfErr, OnErr, true, length};
 ghost use Rattle.spd_nodes.specs.Keys.{IsAbsent};
 ghost use Rattle.spd_nodes.specs.Levels.{levels_of, slots};
@@ -9,8 +11,7 @@ use crate::forest::{Forest, Ref, StoreFault, View};
 use crate::keys::Keys;
 use crate::layout::{Layout, Level};
 use crate::leaf::Leaf;
-use crate::steps::Steps;
-use spd_cons_core::{Entry, Key};
+use spd_cons_core::{Entry, Key, Steps};
 use std::alloc::{AllocError, Global};
 use std::marker::Model;
 use std::sync::ledger::Ledger;

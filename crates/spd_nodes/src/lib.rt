@@ -2,6 +2,7 @@
 #![tactic(auto)]
 
 pub mod alone;
+pub mod conditions;
 pub mod counting;
 pub mod forest;
 mod keys;
@@ -10,9 +11,9 @@ pub mod leaf;
 pub mod reach;
 pub mod refs;
 pub mod same;
-pub mod steps;
 
 pub use alone::Alone;
+pub use conditions::{can_test, is_whole};
 pub use counting::Counting;
 pub use forest::{Forest, Ref, StoreFault, View};
 pub use layout::{Layout, Level};
@@ -20,7 +21,7 @@ pub use leaf::Leaf;
 pub use reach::{count, reached};
 pub use refs::Refs;
 pub use same::{is_same_function, is_same_rest};
-pub use steps::Steps;
+pub use spd_cons_core::Steps;
 
 #[cfg(test)]
 mod tests;

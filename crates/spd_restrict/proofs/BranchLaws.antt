@@ -10,10 +10,11 @@ use Rattle.spd_nodes.specs.declared.leaf.Leaf.TheVariants.{Act}
 use Rattle.spd_nodes.specs.declared.forest.StoreFault.{StoreFault}
 use Rattle.spd_nodes.specs.Levels.{slots, slot_of}
 use Rattle.spd_nodes.specs.Trees.{IsNode, IsFrom, IsReduced}
-use Rattle.spd_nodes.specs.States.{Function, IsState, point, test_tree, test_trees, function_of, Agree}
+use Rattle.spd_model.specs.States.{IsState}
+use Rattle.spd_nodes.specs.States.{Function, point, test_tree, test_trees, function_of, Agree}
 use Rattle.spd_nodes.specs.Shown.{Shown, IsSound, IsWhole, StandsFor, MakesNodesOf, FaultsAt, Faults, MakesOnly, Grows, meaning}
 use Rattle.spd_nodes.proofs.ShownLaws.{Within, makes-within, makes-then, faults-within, stands-for}
-use Rattle.spd_nodes.proofs.StateLaws.{positive-slots, test_tree-agree, InRange-point}
+use Rattle.spd_nodes.proofs.StateLaws.{positive-slots, test_tree-agree, IsState-point}
 use Rattle.spd_restrict.specs.Restricted.{IsSlot}
 use Rattle.spd_restrict.specs.Chosen.{value_of, function_at, chosen, chosen_from, chosen_below, branch_functions}
 use Rattle.spd_restrict.specs.Replaced.{replaced_at, replaced, MayReplace}
@@ -83,7 +84,7 @@ module _ (first end value var : ℕ) (primed : Bool) (s : Shown) (o : IsSound s)
   pub replace-value : Agree s.sizes (function_of s.sizes (replaced first value (s.tree f) (s.tree g))) (replaced_at var primed value (meaning s f) (meaning s g))
   replace-value = record {
     at = λ x y i j.
-        value_at-replaced ds (slot_of var primed) first end is value (point x y) (InRange-point s.sizes x y i j) v (s.tree f) (s.tree g)
+        value_at-replaced ds (slot_of var primed) first end is value (point x y) (IsState-point s.sizes x y i j) v (s.tree f) (s.tree g)
         ∙ ap (λ w. cond (w == value) (meaning s f x y) (meaning s g x y)) (point-value s.sizes x y var primed i j h);
   }
 

@@ -2,7 +2,8 @@
 use Rattle.std.proofs.Common.{◌≡◌, ℕ, ◌+◌, ◌-◌, ◌<◌, ◌≤◌, ◌≢◌, ◌⊎◌, inl, inr, ◌==◌, Bool, true, false, cond, List, set, refl, sym, ◌∙◌, subst, arith, true≢false}
 use Rattle.std.specs.Prelude.{nat_lt}
 use Rattle.std.proofs.lemmas.Bool.Decides.{Decides-eqb, nat_tests}
-use Rattle.spd_nodes.specs.Levels.{levels_of, passes, after, InRange}
+use Rattle.spd_model.specs.States.{IsState}
+use Rattle.spd_nodes.specs.Levels.{levels_of, passes, after}
 use Rattle.spd_nodes.specs.Trees.{Tree, Ends, Tests, value_at, IsFrom, IsAt, IsReduced, CanTest, join}
 use Rattle.spd_nodes.proofs.TreeLaws.{after_above}
 use Rattle.spd_nodes.proofs.ValueLaws.{value_at-join}
@@ -13,19 +14,6 @@ use Rattle.spd_restrict.proofs.SlotLaws.{after-in, after-before, first-in, passe
 
 no-eq : (a b : ℕ) → a ≢ b → (a == b) ≡ false
 no-eq a b h = grind (arith, nat_tests)
-
--- the parts of a reduced test, with levels counted from 0
-pub record Parts (ds : List ℕ) (l : ℕ) (y n : Tree) : Type 0 where
-  pub level : l < levels_of ds
-  pub yes_from : IsFrom ds 0 (after ds l) y
-  pub no_fits : IsFrom ds 0 (after ds l) n ⊎ (IsAt (l + 1) n × (l + 1 < after ds l))
-  pub yes_reduced : IsReduced ds 0 y
-  pub no_reduced : IsReduced ds 0 n
-
-pub parts : (ds : List ℕ) (l : ℕ) (y n : Tree) → IsReduced ds 0 (Tests l y n) → Parts ds l y n
-parts ds l y n r =
-    let a : 0 + after ds (l - 0) ≡ after ds l = after0 ds l in
-    record { level = level_of-reduced ds l y n r; yes_from = rw a at r.3; no_fits = rw a at r.4; yes_reduced = r.5; no_reduced = r.6 }
 
 -- the root isn't below a level
 abbrev pub RootFrom : ℕ → Tree → Type 0
@@ -66,7 +54,7 @@ module _ (ds : List ℕ) (slot first end : ℕ) (s : IsSlot ds slot first end) w
     cof t = cofactored first end value t
 
     -- the tree at the slot's value has the tree's value at each point with that value
-    pub value_at-cofactored : (t : Tree) (p : List ℕ) → IsReduced ds 0 t → IsUpTo first end value t → InRange ds p → value_at ds 0 (cofactored first end value t) p ≡ value_at ds 0 t (set p slot value)
+    pub value_at-cofactored : (t : Tree) (p : List ℕ) → IsReduced ds 0 t → IsUpTo first end value t → IsState ds p → value_at ds 0 (cofactored first end value t) p ≡ value_at ds 0 t (set p slot value)
     value_at-cofactored (Ends a) p r u i = refl
     value_at-cofactored (Tests l y n) p r u i =
         go (nat_lt l first) (nat_lt l end) (l == first + value) refl refl refl

@@ -6,10 +6,11 @@ use Rattle.spd_cons_core.specs.declared.key.Entry.{Entry}
 use Rattle.spd_nodes.specs.declared.leaf.Leaf.{Leaf}
 use Rattle.spd_nodes.specs.Levels.{slots, slot_of, level_at}
 use Rattle.spd_nodes.specs.Trees.{Tree, Ends, Tests, value_at, IsFrom, IsReduced}
-use Rattle.spd_nodes.specs.States.{IsState, point, function_of, Agree}
+use Rattle.spd_model.specs.States.{IsState}
+use Rattle.spd_nodes.specs.States.{point, function_of, Agree}
 use Rattle.spd_nodes.specs.Shown.{Shown, IsSound, IsWhole, meaning}
 use Rattle.spd_nodes.proofs.RankLaws.{rank-view}
-use Rattle.spd_nodes.proofs.StateLaws.{InRange-point}
+use Rattle.spd_nodes.proofs.StateLaws.{IsState-point}
 use Rattle.spd_apply.specs.declared.rule.Below.TheVariants as B
 use Rattle.spd_apply.specs.Rules.{Making, MayMeet, PlansBelow, PlansTest}
 use Rattle.spd_restrict.specs.Restricted.{restricted, cofactored, IsSlot, IsUpTo, MayRestrict}
@@ -105,24 +106,6 @@ set-plain (d ∷ ds) (x ∷ s) (y ∷ t) (suc var) v p q h =
     let e : 2 * suc var + 1 ≡ suc (suc (2 * var + 1)) = omega arith in
     rw e (ap (λ r. y ∷ x ∷ r) (set-plain ds s t var v p.1 q.1 (omega arith)))
 
-slot-size : (ds : List ℕ) (var b : ℕ) → b < 2 → var < length ds → (2 * var + b < length (slots ds)) × (get_or (slots ds) (2 * var + b) 0 ≡ get_or ds var 0)
-slot-size [] var b g h = absurd (omega arith)
-slot-size (d ∷ ds) zero zero g h = (omega arith, refl)
-slot-size (d ∷ ds) zero (suc zero) g h = (omega arith, refl)
-slot-size (d ∷ ds) zero (suc (suc b)) g h = absurd (omega arith)
-slot-size (d ∷ ds) (suc var) b g h =
-    let e : 2 * suc var + b ≡ suc (suc (2 * var + b)) = omega arith in
-    let i = slot-size ds var b g (omega arith) in
-    rw e (omega (arith, i.0), i.1)
-
-pub slot-of : (sizes : List ℕ) (var first end : ℕ) (primed : Bool) → var < length sizes → first ≡ level_at sizes var primed 0 → end ≡ first + (get_or sizes var 0 - 1) → IsSlot (slots sizes) (slot_of var primed) first end
-slot-of sizes var first end true h f e =
-    let i = slot-size sizes var 0 (omega arith) h in
-    record { slot_in = i.0; first_is = omega (arith, f); end_is = rw i.1 e }
-slot-of sizes var first end false h f e =
-    let i = slot-size sizes var 1 (omega arith) h in
-    record { slot_in = i.0; first_is = omega (arith, f); end_is = rw i.1 e }
-
 module _ (first end value var : ℕ) (primed : Bool) (s : Shown) (o : IsSound s) (f : Entry) (kf : s.knows f ≡ true) (wf : IsWhole s f)
     (h : var < length s.sizes) (is : IsSlot (slots s.sizes) (slot_of var primed) first end) (v : first + value ≤ end) where
   up-whole : IsUpTo first end value (s.tree f)
@@ -143,7 +126,7 @@ module _ (first end value var : ℕ) (primed : Bool) (s : Shown) (o : IsSound s)
   pub fixed-value : Agree s.sizes (function_of s.sizes (cofactored first end value (s.tree f))) (restricted var primed value (meaning s f))
   fixed-value = record {
     at = λ x y i j.
-        value_at-cofactored (slots s.sizes) (slot_of var primed) first end is value (s.tree f) (point x y) (o.reduced f kf) up-whole (InRange-point s.sizes x y i j)
+        value_at-cofactored (slots s.sizes) (slot_of var primed) first end is value (s.tree f) (point x y) (o.reduced f kf) up-whole (IsState-point s.sizes x y i j)
         ∙ split primed x y i j;
   }
     where

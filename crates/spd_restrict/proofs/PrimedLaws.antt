@@ -6,7 +6,8 @@ use Rattle.spd_cons_core.specs.declared.key.Entry.{Entry}
 use Rattle.spd_nodes.specs.declared.leaf.Leaf.{Leaf}
 use Rattle.spd_nodes.specs.Levels.{levels_of, passes, after, is_first, slots, level_at, IsTestOf}
 use Rattle.spd_nodes.specs.Trees.{Tree, Ends, Tests, value_at, IsFrom, IsAt, IsReduced, CanTest, join}
-use Rattle.spd_nodes.specs.States.{IsState, point, function_of, Agree}
+use Rattle.spd_model.specs.States.{IsState}
+use Rattle.spd_nodes.specs.States.{point, function_of, Agree}
 use Rattle.spd_nodes.specs.Shown.{Shown, IsSound, IsWhole, meaning}
 use Rattle.spd_nodes.proofs.LayoutLaws.{level-primed, level-plain}
 use Rattle.spd_nodes.proofs.RankLaws.{rank-view}

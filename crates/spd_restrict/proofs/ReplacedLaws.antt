@@ -4,7 +4,8 @@ use Rattle.std.specs.Prelude.{nat_lt}
 use Rattle.std.proofs.lemmas.Bool.Decides.{Decides-eqb, nat_tests}
 use Rattle.std.proofs.lemmas.List.{set-get_or}
 use Rattle.spd_nodes.specs.declared.leaf.Leaf.{Leaf}
-use Rattle.spd_nodes.specs.Levels.{passes, after, InRange}
+use Rattle.spd_model.specs.States.{IsState}
+use Rattle.spd_nodes.specs.Levels.{passes, after}
 use Rattle.spd_nodes.specs.Trees.{Tree, Ends, Tests, value_at, IsFrom, IsAt, IsReduced, join}
 use Rattle.spd_nodes.proofs.TreeLaws.{join-same, join-differ}
 use Rattle.spd_nodes.proofs.ValueLaws.{value_at-join}
@@ -41,11 +42,11 @@ value-no ds l (Tests k y n) p h = go (k == l) refl
 
 module _ (ds : List ℕ) (slot first end : ℕ) (s : IsSlot ds slot first end) where
   -- a point in range passes the tests of its own value alone
-  passes-slot : (l : ℕ) (p : List ℕ) → first ≤ l → l < end → InRange ds p → passes ds l p ≡ (get_or p slot 0 == l - first)
+  passes-slot : (l : ℕ) (p : List ℕ) → first ≤ l → l < end → IsState ds p → passes ds l p ≡ (get_or p slot 0 == l - first)
   passes-slot l p g h i =
       ap (passes ds l) (sym (set-get_or p slot 0)) ∙ passes-in ds slot first end l (get_or p slot 0) p s g h i
 
-  module _ (value : ℕ) (p : List ℕ) (i : InRange ds p) where
+  module _ (value : ℕ) (p : List ℕ) (i : IsState ds p) where
     -- one of two leaves, by whether the point's value in the slot is this one
     abbrev picks : Leaf → Leaf → Leaf
     picks a b = cond (get_or p slot 0 == value) a b

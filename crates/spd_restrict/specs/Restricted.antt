@@ -15,12 +15,6 @@ cofactored first end value (Tests l y n) =
     cond (nat_lt l first) (join l (cofactored first end value y) (cofactored first end value n))
     (cond (nat_lt l end) (cond (l == first + value) y (cofactored first end value n)) (Tests l y n))
 
--- a slot's tests are the levels from `first` to below `end`
-pub record IsSlot (ds : List ℕ) (slot first end : ℕ) : Type 0 where
-  pub slot_in : slot < length ds
-  pub first_is : first ≡ levels_of (take slot ds)
-  pub end_is : end ≡ first + (slice_index ds slot - 1)
-
 -- where the root tests the slot, its value isn't above this one
 abbrev pub IsUpTo : ℕ → ℕ → ℕ → Tree → Type 0
 IsUpTo first end value (Ends a) = Unit {0}

@@ -3,11 +3,15 @@
 //! Division is exact up to a stated rounding, and a number is printed with every digit of its unit.
 #![tactic(auto)]
 
+mod decimal;
 mod division;
 mod text;
+mod unit;
 
+pub use decimal::{Decimal, Scale, read_decimal};
 pub use division::{ceil_div, floor_div};
 pub use text::put_units;
+pub use unit::scale;
 
 #[cfg(test)]
 mod tests;
