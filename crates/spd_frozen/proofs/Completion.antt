@@ -152,7 +152,7 @@ module _ (P : D → Type 0) (Q : Subtrees Leaf → Type 0) (inherited : IsInheri
     All-nodes_after before (Diagram.branch v es) h p =
         All-with_node (nodes_after_all leaf_eq before es) (Diagram.branch v es) (All-nodes_after_all before es h (inherited.branch v es p)) p
 
-    All-nodes_after_all : (before : List D) (es : Subtrees Leaf) → All P before → Q es → All P (nodes_after_all leaf_eq before es)
+    pub All-nodes_after_all : (before : List D) (es : Subtrees Leaf) → All P before → Q es → All P (nodes_after_all leaf_eq before es)
     All-nodes_after_all before none h q = h
     All-nodes_after_all before (also e es) h q =
         let both = inherited.also e es q in

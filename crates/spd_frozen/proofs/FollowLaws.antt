@@ -31,7 +31,7 @@ pub frozen-kids_first : (nodes : List (Node Leaf)) → IsFrozen nodes → KidsFi
 frozen-kids_first nodes h = kids_first 0 nodes (λ i n e. kids_below nodes i n (h.each i n e))
 
 -- a subtree by its place
-reached_among-at : (s : List ℕ) (v : ℕ) (ds : List D) → v < length ds → reached_among s v (subtrees_of ds) ≡ reached s (get_or ds v nothing)
+pub reached_among-at : (s : List ℕ) (v : ℕ) (ds : List D) → v < length ds → reached_among s v (subtrees_of ds) ≡ reached s (get_or ds v nothing)
 reached_among-at s v [] h = absurd (omega arith)
 reached_among-at s zero (d ∷ ds) h = refl
 reached_among-at s (suc v) (d ∷ ds) h = reached_among-at s v ds (omega arith)

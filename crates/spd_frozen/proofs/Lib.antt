@@ -4,3 +4,6 @@ pub mod Reading
 pub mod UniqueLaws
 pub mod FollowLaws
 pub mod TableLaws
+pub mod FrozenLaws
+pub mod ToldLaws
+pub mod CallerLemmas

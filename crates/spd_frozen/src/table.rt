@@ -1,5 +1,5 @@
 //! The reduced diagram of a table.
-ghost use Rattle.std.specs.Prelude.{◌≡◌, ◌+◌, ◌*◌, ◌<◌, ◌^◌, ℕ, List, length, map, IfOk, All};
+ghost use Rattle.std.specs.Prelude.{◌≡◌, ◌+◌, ◌*◌, ◌<◌, ◌^◌, ℕ, List, ◌↔◌, length, map, slice_index, IfOk, IsTrue, All};
 ghost use Rattle.spd_model.specs.declared.process.Var.{Var as Variable};
 ghost use Rattle.spd_model.specs.Numbers.{numbers_below};
 ghost use Rattle.spd_model.specs.Reduced.{reduced_from};
@@ -50,7 +50,7 @@ fn root(
         None => table.leaf(leaves[0]),
         Some((first, rest)) => {
             let kids = kids(table, alloc, var, first.values.len(), rest, leaves)?;
-            if kids.iter().all(|kid| *kid == kids[0]) {
+            if are_equal(&kids) {
                 Ok(kids[0])
             } else {
                 table.branch(var, kids)
@@ -83,4 +83,13 @@ fn kids(
         kids.push(root(table, alloc, var + 1, rest, part)?)?;
     }
     Ok(kids)
+}
+
+/// Whether all of these numbers are equal.
+fn are_equal(numbers: &[u32]) -> bool
+    requires { 0 < length numbers.now }
+    ensures { IsTrue result ↔ All (λ k. k ≡ slice_index numbers.now 0) numbers.now }
+{
+    let first = numbers[0];
+    numbers.iter().all(|number| *number == first)
 }
