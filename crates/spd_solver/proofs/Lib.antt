@@ -1,3 +1,6 @@
+pub mod SolvingLaws
+mod StateTexts
+pub mod TableLaws
 pub mod RunLaws
 mod Writing
 pub mod SmallTokens

@@ -1,9 +1,8 @@
 //! Names of what is at fault in a model, and its state in words.
 ghost use Rattle.std.specs.Prelude.{◌≡◌, ◌++◌, length, IfOk, OnOk};
-ghost use Rattle.std.specs.List.{join_with_byte};
 ghost use Rattle.spd_model.specs.ResultText.{action_name as action_text, var_name as var_text, value_name as value_text};
 ghost use Rattle.spd_solver.specs.Solve.{state_text as state_text_of};
-ghost use Rattle.spd_solver.specs.inner.Stages.{assignment, assignments};
+ghost use Rattle.spd_solver.specs.inner.Stages.{gap_before, state_word};
 
 use spd_model::{Model, State, Text, Var};
 use sqlite_items::Items;
@@ -39,29 +38,24 @@ fn value_name(var: &Var, value: u8) -> &[u8]
     }
 }
 
-/// Appends `variable=value`.
-fn put_assignment(text: &mut Vec<u8>, var: &Var, value: u8) -> Result<(), AllocError>
-    ensures { OnOk result (text.new.items ≡ text.old.items ++ assignment var.now value) }
+/// What parts the word of this number from the one before it.
+fn gap_before(number: usize) -> &'static [u8]
+    ensures { result.now ≡ gap_before number }
 {
+    match number {
+        0 => b"",
+        _ => b" ",
+    }
+}
+
+/// Appends `variable=value`, the word of this number.
+fn put_word(text: &mut Vec<u8>, number: usize, var: &Var, value: u8) -> Result<(), AllocError>
+    ensures { OnOk result (text.new.items ≡ text.old.items ++ gap_before number ++ state_word var.now value) }
+{
+    text.extend_from_slice(gap_before(number))?;
     text.extend_from_slice(var.name.as_slice())?;
     text.extend_from_slice(b"=")?;
     text.extend_from_slice(value_name(var, value))
-}
-
-/// Appends `variable=value` for each of these variables, parted by spaces.
-fn put_assignments(text: &mut Vec<u8>, vars: &[Var], values: &[u8]) -> Result<(), AllocError>
-    requires { length values.now ≡ length vars.now }
-    ensures { OnOk result (text.new.items ≡ text.old.items ++ join_with_byte 32 (assignments vars.now values.now)) }
-{
-    match (vars, values) {
-        ([var], [value]) => put_assignment(text, var, *value),
-        ([var, other_vars @ ..], [value, other_values @ ..]) => {
-            put_assignment(text, var, *value)?;
-            text.extend_from_slice(b" ")?;
-            put_assignments(text, other_vars, other_values)
-        }
-        _ => Ok(()),
-    }
 }
 
 /// A state in words: `variable=value` for each variable, parted by spaces.
@@ -70,6 +64,8 @@ pub(crate) fn state_text(alloc: Global, model: &Model, state: &State) -> Result<
     ensures { IfOk result (λ text. text ≡ state_text_of model.now state.now) }
 {
     let mut text = Vec::new(alloc);
-    put_assignments(&mut text, model.vars.as_slice(), state.values())?;
+    for (i, var) in model.vars.as_slice().iter().enumerate() {
+        put_word(&mut text, i, var, state.get(i))?;
+    }
     Ok(Items::from_vec(text))
 }

@@ -93,6 +93,8 @@ pub(crate) fn solve_model(
     ensures solved { IfOk result (IsSolution model.now options.now) }
     ensures refused { IfErr result (λ why. RefusesProcess model.now (unsolved_status why)) }
 {
+    // Reading a field tells the proof what every model keeps.
+    let _vars = &model.vars;
     // The value of each turn is within its limit, and the one at which the run stops is near optimal.
     law_bounded();
     law_bound();

@@ -36,6 +36,8 @@ pub(crate) fn iterate_of(alloc: Global, model: &Model, plain: Plain) -> Result<I
     ensures told { IfOk result (λ x. told x ≡ told_of model.now plain) }
     ensures fits { IfOk result (FitsModel model.now) }
 {
+    // Reading a field tells the proof what every model keeps.
+    let _vars = &model.vars;
     let values = value_leaves(alloc, plain.value.as_slice())?;
     let choices = action_leaves(alloc, plain.policy.as_slice())?;
     Ok(Iterate {

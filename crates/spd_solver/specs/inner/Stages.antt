@@ -1,5 +1,5 @@
 -- The stages of a command: what each gives, why it fails, and the status of each failure.
-use Rattle.std.specs.Prelude.{ℕ, ◌<◌, ◌≡◌, List, ◌++◌, length, map, zip, codes, Option, Some, IfSome, Result, Ok, Err}
+use Rattle.std.specs.Prelude.{ℕ, zero, suc, ◌<◌, ◌≡◌, List, [], ◌++◌, length, codes, Option, Some, IfSome, Result, Ok, Err}
 use Rattle.spd_edge.specs.Counts.{Rose}
 use Rattle.spd_edge.specs.Direction.{Direction}
 use Rattle.spd_edge.specs.declared.outside.Stage.TheVariants as Stage
@@ -83,12 +83,13 @@ unsolved_status (Unsolved.Sum action var state sum) = Status.Sum action var stat
 unsolved_status (Unsolved.Range action state value) = Status.Range action state value
 unsolved_status Unsolved.Memory = Status.Memory
 
--- `variable=value`, and that for each of these variables
-abbrev pub assignment : Var → ℕ → List ℕ
-assignment var v = var.name ++ codes "=" ++ value_name var v
+-- `variable=value`, and what parts the word of this number from the one before it
+abbrev pub state_word : Var → ℕ → List ℕ
+state_word var v = var.name ++ codes "=" ++ value_name var v
 
-abbrev pub assignments : List Var → List ℕ → List (List ℕ)
-assignments vars s = map (λ x. assignment x.0 x.1) (zip vars s)
+abbrev pub gap_before : ℕ → List ℕ
+gap_before zero = []
+gap_before (suc number) = codes " "
 
 -- ---- ends
 
