@@ -1,30 +1,23 @@
 -- Each kind of step of the running table is allowed by the rule.
-use Rattle.std.proofs.Common.{◌≡◌, ◌≢◌, ◌⊎◌, ℕ, ◌+◌, ◌-◌, ◌*◌, ◌%◌, ◌<◌, ◌≤◌, Bool, true, false, cond, eqb, ltb, not, is_none, ◌&&◌, List, [], ◌∷◌, ◌++◌, map, drop, set, get_or, length, Option, Some, None, unwrap_or, refl, sym, ap, ◌∙◌, subst, ⊎_elim, arith, length-set}
-use Rattle.std.specs.List.{Contains}
-use Rattle.std.specs.Option.{option_map_or}
-use Rattle.std.proofs.lemmas.Bool.{and_parts, and_from, cond_both, true≢false, eqb-true}
+use Rattle.std.proofs.Common.{◌≡◌, ℕ, ◌+◌, ◌*◌, ◌%◌, ◌<◌, Bool, true, false, cond, eqb, ltb, is_none, ◌&&◌, drop, get_or, Option, Some, unwrap_or, refl, sym, ap, ◌∙◌, subst, arith}
+use Rattle.std.proofs.lemmas.Bool.{and_parts, cond_both}
 use Rattle.std.proofs.Math.Nat.{mod-eq_of_lt}
 use Rattle.std.proofs.lemmas.List.{get_or-drop}
 use prog.Atomic.{either}
-use lib.ListN.{get_elem?}
-use mathlib.Core.Option.{some, none}
-use Rattle.atomic_table.specs.Table.{Me, step, Allows, keeps}
-use Rattle.atomic_table.proofs.Lists.{set_again}
+use Rattle.atomic_table.specs.Table.{step, Allows}
 use Rattle.spd_cons_core.specs.declared.key.Entry.{Entry}
 use Rattle.spd_cons_core.specs.declared.key.Key.{Key}
-use Rattle.spd_cons_core.specs.declared.mind.Known.{Known}
 use Rattle.spd_cons_core.specs.declared.mind.Call.{Call}
 use Rattle.spd_cons_core.specs.declared.event.Event.TheVariants.{LoadBucket, Claim, StoreContent, ExchangeBucket, LoadContent}
-use Rattle.spd_cons_core.specs.Views.{Seat, Machine}
+use Rattle.spd_cons_core.specs.Views.{Seat}
 use Rattle.spd_cons_core.specs.Spelling.{words_of, IsKey}
-use Rattle.spd_cons_core.specs.Seats.{bucket, bucket_count, entry_words, seat_at}
+use Rattle.spd_cons_core.specs.Seats.{bucket, entry_words}
 use Rattle.spd_cons_core.specs.declared.key.Key.TheVariants.{Act}
-use Rattle.spd_cons_core.specs.Events.{new_call, call_for, can_load_bucket, after_empty, after_bucket, can_claim, after_claim, can_store, can_exchange, after_exchange, can_compare, after_content, after_equal}
+use Rattle.spd_cons_core.specs.Events.{new_call, call_for, can_load_bucket, after_bucket, can_claim, after_claim, can_store, can_exchange, after_exchange, can_compare, after_content}
 use Rattle.spd_cons_core.proofs.CallerLemmas.{load_bucket_keeps, claim_keeps, store_content_keeps, exchange_bucket_keeps, load_content_keeps, claims_below, call_within}
 use Rattle.spd_cons.specs.declared.view.Size.{Size}
-use Rattle.spd_cons.specs.declared.view.View.{View}
-use Rattle.spd_cons.specs.Ruled.{Running, machine_of, word_place, IsRuled}
-use Rattle.spd_cons.specs.Told.{Mine, Takes, call_of, spare_of, found_of, after_store, TellsBucket, TellsClaim, TellsStore, TellsExchange, TellsContent}
+use Rattle.spd_cons.specs.Ruled.{machine_of, word_place, IsRuled}
+use Rattle.spd_cons.specs.Told.{Mine, Takes, call_of, spare_of, found_of, TellsBucket, TellsClaim, TellsStore, TellsExchange, TellsContent}
 use Rattle.spd_cons.proofs.Places.{bucket_is, fives_at, bucket_length}
 use Rattle.spd_cons.proofs.Machines.{seat_is, load_bucket_machine, claim_machine, store_machine, exchange_machine, load_content_machine}
 use Rattle.spd_cons.proofs.Ruling.{allowed}
@@ -71,13 +64,13 @@ claiming slots id me can =
     let live = (and_parts me.0.mind.live _ can).0 in
     allowed k slots id 0 me (λ n. (n + 1) % 18446744073709551616) (λ n. n) (λ i. Claim i) (λ c. c.claims) (λ n. after_claim (k.limit + k.most) n me.0.mind) live (λ n. live_claim (k.limit + k.most) n me.0.mind live)
     (λ s r there.
-      let wide = r.width in
-      let bound = claims_below (machine_of k s) r.sound in
-      let limit = r.sized.limit_high in
-      let most = r.sized.most_high in
-      let old : ℕ = get_or s.words 0 0 in
-      let room : old + 1 < 18446744073709551616 = omega arith in
-      record {
+    let wide = r.width in
+    let bound = claims_below (machine_of k s) r.sound in
+    let limit = r.sized.limit_high in
+    let most = r.sized.most_high in
+    let old : ℕ = get_or s.words 0 0 in
+    let room : old + 1 < 18446744073709551616 = omega arith in
+    record {
       read = refl;
       same = claim_machine k s id ((old + 1) % 18446744073709551616) me.0 (omega arith) there can (mod-eq_of_lt room);
       law = claim_keeps (machine_of k s) id r.sized r.sound;
@@ -95,7 +88,7 @@ call_is seat call is = ap (λ (o : Option Call). unwrap_or o (new_call 0 (Act 0)
 
 storing : (slots id : ℕ) (me : Mine) (call : Call) (spare : Entry) → me.0.mind.call ≡ Some call → me.0.mind.spare ≡ Some spare → can_store call.stored call me.0.mind ≡ true → call.stored < 5 → spare.0 < me.0.size.limit + me.0.size.most
     → Allows (IsRuled me.0.size) slots id me ((1 + me.0.size.count) + (spare.0 * 5 + call.stored)) (λ _. get_or (words_of call.key) call.stored 0)
-      (λ _ m'. Takes (λ i. StoreContent i call.stored) (λ c. get_or (words_of call.key) call.stored 0) (λ n. record me.0.mind { call = Some (record call { stored = call.stored + 1 }) }) me.0 (get_or (words_of call.key) call.stored 0) m'.0 × (m'.1 ≡ me.1))
+    (λ _ m'. Takes (λ i. StoreContent i call.stored) (λ c. get_or (words_of call.key) call.stored 0) (λ n. record me.0.mind { call = Some (record call { stored = call.stored + 1 }) }) me.0 (get_or (words_of call.key) call.stored 0) m'.0 × (m'.1 ≡ me.1))
 storing slots id me call spare in_call has can five below =
     let k : Size = me.0.size in
     let x : ℕ = get_or (words_of call.key) call.stored 0 in
@@ -118,22 +111,22 @@ either_is false x y = refl
 
 exchanging : (slots id : ℕ) (me : Mine) (call : Call) (spare : Entry) → me.0.mind.call ≡ Some call → me.0.mind.spare ≡ Some spare → can_exchange call me.0.mind ≡ true
     → Allows (IsRuled me.0.size) slots id me (call.at + 1) (λ n. either (eqb n 0) (spare.0 + 1) n)
-      (λ found m'. Takes (λ i. ExchangeBucket i) (λ c. bucket c call.at) (λ n. after_exchange call spare n me.0.mind) me.0 found m'.0 × (m'.1 ≡ me.1))
+    (λ found m'. Takes (λ i. ExchangeBucket i) (λ c. bucket c call.at) (λ n. after_exchange call spare n me.0.mind) me.0 found m'.0 × (m'.1 ≡ me.1))
 exchanging slots id me call spare in_call has can =
     let k : Size = me.0.size in
     let live = (and_parts me.0.mind.live _ can).0 in
     allowed k slots id (call.at + 1) me (λ n. either (eqb n 0) (spare.0 + 1) n) (λ n. n) (λ i. ExchangeBucket i) (λ c. bucket c call.at) (λ n. after_exchange call spare n me.0.mind) live (λ n. live_exchange call spare n me.0.mind live)
     (λ s r there.
-      let wide = r.width in
-      let count = bucket_length s.words k.count (omega arith) in
-      let at = call_within (machine_of k s) r.sound id me.0.mind call (sym (seat_is k s id me.0 there)) live in_call in
-      let within : call.at < k.count = omega (arith, count, at) in
-      let old : ℕ = get_or s.words (call.at + 1) 0 in
-      record {
-        read = sym (bucket_is s.words k.count call.at within);
-        same = exchange_machine k s id old (either (eqb old 0) (spare.0 + 1) old) me.0 call spare there in_call has can within refl (either_is (eqb old 0) (spare.0 + 1) old);
-        law = exchange_bucket_keeps (machine_of k s) id r.sized r.sound;
-      })
+    let wide = r.width in
+    let count = bucket_length s.words k.count (omega arith) in
+    let at = call_within (machine_of k s) r.sound id me.0.mind call (sym (seat_is k s id me.0 there)) live in_call in
+    let within : call.at < k.count = omega (arith, count, at) in
+    let old : ℕ = get_or s.words (call.at + 1) 0 in
+    record {
+      read = sym (bucket_is s.words k.count call.at within);
+      same = exchange_machine k s id old (either (eqb old 0) (spare.0 + 1) old) me.0 call spare there in_call has can within refl (either_is (eqb old 0) (spare.0 + 1) old);
+      law = exchange_bucket_keeps (machine_of k s) id r.sized r.sound;
+    })
 
 -- LoadContent
 
@@ -145,7 +138,7 @@ live_content count e call n seat live =
 
 comparing : (slots id : ℕ) (me : Mine) (call : Call) (e : Entry) → me.0.mind.call ≡ Some call → can_compare e call.right call me.0.mind ≡ true → call.right < 5 → e.0 < me.0.size.limit + me.0.size.most
     → Allows (IsRuled me.0.size) slots id me ((1 + me.0.size.count) + (e.0 * 5 + call.right)) (λ n. n)
-      (λ found m'. Takes (λ i. LoadContent i e call.right) (λ c. get_or (entry_words c e.0) call.right 0) (λ n. after_content me.0.size.count e call n me.0.mind) me.0 found m'.0 × (m'.1 ≡ me.1))
+    (λ found m'. Takes (λ i. LoadContent i e call.right) (λ c. get_or (entry_words c e.0) call.right 0) (λ n. after_content me.0.size.count e call n me.0.mind) me.0 found m'.0 × (m'.1 ≡ me.1))
 comparing slots id me call e in_call can five below =
     let k : Size = me.0.size in
     let live = (and_parts me.0.mind.live _ can).0 in
@@ -155,9 +148,6 @@ comparing slots id me call e in_call can five below =
       same = load_content_machine k s id me.0 call e (omega arith) there in_call can five below;
       law = load_content_keeps (machine_of k s) id e call.right r.sized r.sound;
     })
-
-pub call_same : (seat : Seat) (call : Call) → seat.call ≡ Some call → seat.call ≡ Some (call_of seat)
-call_same seat call is = is ∙ ap (λ c. Some c) (sym (call_is seat call is))
 
 -- the same, as the calls of the code ask for them
 

@@ -1,16 +1,13 @@
 -- What the search knows after it claimed an entry, and after it stored a word.
-use Rattle.std.proofs.Common.{◌≡◌, ◌≢◌, ℕ, ◌+◌, ◌-◌, ◌<◌, ◌≤◌, Bool, true, false, cond, ltb, not, is_none, ◌&&◌, Option, Some, None, unwrap_or, refl, sym, ap, ◌∙◌, subst, arith}
-use Rattle.std.specs.Option.{option_map_or}
+use Rattle.std.proofs.Common.{◌≡◌, ℕ, ◌+◌, ◌<◌, ◌≤◌, true, cond, Some, None, ap, ◌∙◌}
 use Rattle.std.proofs.lemmas.Bool.{lt-ltb, le-ltb}
-use Rattle.spd_cons_core.specs.declared.key.Entry.{Entry}
-use Rattle.spd_cons_core.specs.declared.mind.Call.{Call}
 use Rattle.spd_cons_core.specs.declared.mind.Last.TheVariants.{Full}
-use Rattle.spd_cons_core.specs.Views.{Seat, Machine}
+use Rattle.spd_cons_core.specs.Views.{Seat}
 use Rattle.spd_cons_core.specs.Seats.{entry}
-use Rattle.spd_cons_core.specs.Events.{after_claim, can_claim}
+use Rattle.spd_cons_core.specs.Events.{after_claim}
 use Rattle.spd_cons.specs.declared.view.View.{View}
 use Rattle.spd_cons.specs.declared.search.Search.{Search}
-use Rattle.spd_cons.specs.Told.{Mine, Sees, TellsClaim, TellsStore, call_of, after_store}
+use Rattle.spd_cons.specs.Told.{Mine, TellsClaim, TellsStore, call_of}
 use Rattle.spd_cons.specs.Searching.{stored_of, call_at, held, IsEmpty, Claimed}
 use Rattle.spd_cons.proofs.Allowed.{call_is}
 
@@ -26,18 +23,6 @@ claims s old end m m' at is_end tells =
       room = λ h. (ap (λ (w : View). w.mind.spare) (room h), record { call = ap (λ (w : View). w.mind.call) (room h) ∙ at.call }, ap held (room h));
       past = λ h. (ap held (past h), ap (λ (w : View). w.mind.call) (past h), ap (λ (w : View). w.mind.spare) (past h));
     }
-
-pub can-claim : (s : Search) (stored : ℕ) (v : View) → v.mind.live ≡ true → IsEmpty s stored v → v.mind.spare ≡ None → v.mind.ended ≡ false → can_claim v.mind ≡ true
-can-claim s stored v live at none going = λ i. live i && (option_map_or (λ call. call.empty) (at.call i) false && (is_none (none i) && not (going i)))
-
--- a spare is one of the entries
-pub spare-below : (v : View) → Sees v → (e : Entry) → v.mind.spare ≡ Some e → e.0 < v.size.limit + v.size.most
-spare-below v sees e spare =
-    let seat = sees.sound.seats sees.seat (ap (λ (z : Seat). z.live) sees.there ∙ sees.live) in
-    let below = (seat.spare e (ap (λ (z : Seat). z.spare) sees.there ∙ spare)).claimed.below_end in
-    let limit = sees.limit in
-    let most = sees.most in
-    omega arith
 
 pub stores : (s : Search) (word x : ℕ) (m m' : Mine) → IsEmpty s word m.0 → TellsStore m x m' → IsEmpty s (word + 1) m'.0 × (held m'.0 ≡ held m.0) × (m'.0.mind.spare ≡ m.0.mind.spare)
 stores s word x m m' at tells =

@@ -1,24 +1,21 @@
 -- What the search knows after it compared a word.
-use Rattle.std.proofs.Common.{◌≡◌, ◌≢◌, ℕ, zero, suc, ◌+◌, ◌-◌, ◌<◌, ◌≤◌, Bool, true, false, cond, eqb, not, is_none, ◌&&◌, List, [], ◌∷◌, ◌++◌, take, get_or, length, Option, Some, None, unwrap_or, refl, sym, ap, ◌∙◌, subst, ⊎_elim, arith}
-use Rattle.std.specs.List.{Contains}
+use Rattle.std.proofs.Common.{◌≡◌, ◌≢◌, ℕ, ◌+◌, ◌<◌, Bool, true, false, cond, eqb, not, is_none, ◌&&◌, List, take, get_or, length, Option, Some, None, unwrap_or, refl, sym, ap, ◌∙◌, subst, arith}
 use Rattle.std.specs.Option.{option_map_or}
-use Rattle.std.proofs.lemmas.Bool.{cond-true, eq-eqb, eqb-true, eqb-false, ne_eqb, true≢false}
+use Rattle.std.proofs.lemmas.Bool.{eq-eqb, eqb-true, eqb-false, ne_eqb}
 use Rattle.std.proofs.lemmas.List.{take_more_same}
 use Rattle.spd_cons_core.specs.declared.key.Entry.{Entry}
-use Rattle.spd_cons_core.specs.declared.key.Key.{Key}
 use Rattle.spd_cons_core.specs.declared.mind.Known.{Known}
 use Rattle.spd_cons_core.specs.declared.mind.Call.{Call}
 use Rattle.spd_cons_core.specs.declared.mind.Last.TheVariants.{Got}
 use Rattle.spd_cons_core.specs.Views.{Seat, Machine}
 use Rattle.spd_cons_core.specs.Spelling.{words_of, start_of}
-use Rattle.spd_cons_core.specs.Seats.{seat_at, entry_words, bucket_count, learned, is_known, same_key, parts_known}
-use Rattle.spd_cons_core.specs.Events.{after_content, after_equal, next_bucket, can_compare, can_load_bucket, call_for, new_call}
-use Rattle.spd_cons_core.specs.Invariants.{Keeps}
+use Rattle.spd_cons_core.specs.Seats.{entry_words, learned, is_known, same_key, parts_known}
+use Rattle.spd_cons_core.specs.Events.{after_content, after_equal, next_bucket, new_call}
 use Rattle.spd_cons_core.proofs.CallerLemmas.{goes_on, load_content_keeps, learned_known, five_of_key, five_of_entry, same_of_five, same_key_tells}
 use Rattle.spd_cons.specs.declared.view.View.{View}
 use Rattle.spd_cons.specs.declared.search.Search.{Search}
 use Rattle.spd_cons.specs.Ruled.{HasKey}
-use Rattle.spd_cons.specs.Told.{Mine, Sees, Takes, call_of, found_of, TellsContent}
+use Rattle.spd_cons.specs.Told.{Mine, Sees, call_of, found_of, TellsContent}
 use Rattle.spd_cons.specs.Searching.{stored_of, call_at, Held, held, IsReady, IsComparing, GoesOn, Knows, Compares}
 use Rattle.spd_cons.proofs.Allowed.{call_is}
 use Rattle.spd_cons.proofs.Ruling.{has_key}

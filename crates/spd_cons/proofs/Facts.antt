@@ -1,5 +1,5 @@
 -- What holds of a seat whose view is one of a machine that meets the invariant.
-use Rattle.std.proofs.Common.{◌≡◌, ℕ, ◌+◌, ◌<◌, ◌≤◌, true, length, sym, ap, ◌∙◌, subst, refl, List, [], ◌∷◌, ◌++◌, set, arith, length-set, None, Some, Option, is_none, ◌&&◌, ◌||◌, length-append}
+use Rattle.std.proofs.Common.{◌≡◌, ℕ, ◌+◌, ◌<◌, ◌≤◌, true, length, sym, ap, ◌∙◌, subst, refl, [], ◌∷◌, set, arith, length-set, None, Some, Option, is_none, ◌&&◌, ◌||◌, length-append}
 use Rattle.std.specs.List.{Contains}
 use Rattle.spd_cons_core.specs.declared.mind.Known.{Known}
 use Rattle.spd_cons_core.specs.Views.{Seat}
@@ -20,7 +20,7 @@ use Rattle.spd_cons_core.proofs.CallerLemmas.{joined_known, joined_cases, joined
 use Rattle.spd_cons.specs.declared.view.Size.{Size}
 use Rattle.spd_cons.specs.declared.view.View.{View}
 use Rattle.spd_cons.specs.declared.seat.Seat.TheInside.{Inside}
-use Rattle.spd_cons.specs.Values.{SeatValue, TableValue, IsSeated, IsSeatOf, Joins}
+use Rattle.spd_cons.specs.Values.{TableValue, IsSeated, IsSeatOf, Joins}
 use Rattle.spd_cons.specs.Shown.{shown, IsAtRest, IsActive, view_of}
 use Rattle.spd_cons.specs.Told.{Sees, Learns, split_view, new_view, joined_view}
 
@@ -114,8 +114,9 @@ either_is_or (Some x) b = refl
 either_is_or None b = refl
 
 pub join_rest : (h theirs new : ActiveSeat) → IsActive h → IsActive theirs → (view_of h).mind.call ≡ None → Learns (joined_view (view_of h) (view_of theirs)) (view_of new) → new.token.me.1 ≡ h.token.me.1
-    → new.spare ≡ option_or h.spare theirs.spare → new.ended ≡ (h.ended || theirs.ended) → new.published ≡ h.published + theirs.published → IsActive new × ((view_of new).mind.call ≡ None)
-join_rest h theirs new is is' rests learns held spare ended published =
+    → new.spare ≡ option_or h.spare theirs.spare → new.ended ≡ (h.ended || theirs.ended) → new.published ≡ h.published + theirs.published → new.stands ≡ h.stands + theirs.stands → new.splits ≡ h.splits + theirs.splits
+    → IsActive new × ((view_of new).mind.call ≡ None)
+join_rest h theirs new is is' rests learns held spare ended published stands splits =
     let now = learns.now in (
       record {
         none_held = held ∙ is.none_held;
@@ -124,6 +125,8 @@ join_rest h theirs new is is' rests learns held spare ended published =
         spare = ap (λ (z : View). z.mind.spare) now ∙ ((λ i. either_spare (is.spare i) (is'.spare i)) ∙ (either_is_or h.spare theirs.spare ∙ sym spare));
         ended = ap (λ (z : View). z.mind.ended) now ∙ ((λ i. is.ended i || is'.ended i) ∙ sym ended);
         published = published ∙ ((λ i. is.published i + is'.published i) ∙ sym (ap (λ (z : View). length z.mind.published) now ∙ length-append (view_of h).mind.published (view_of theirs).mind.published));
+        stands = ap (λ (z : View). z.mind.stands) now ∙ ((λ i. is.stands i + is'.stands i) ∙ sym stands);
+        splits = ap (λ (z : View). z.mind.splits) now ∙ ((λ i. is.splits i + is'.splits i) ∙ sym splits);
       },
       ap (λ (z : View). z.mind.call) now ∙ rests,
     )

@@ -1,8 +1,7 @@
 -- What the search knows after it looked into its bucket.
-use Rattle.std.proofs.Common.{◌≡◌, ◌≢◌, ◌⊎◌, ℕ, ◌+◌, ◌-◌, ◌<◌, ◌≤◌, Bool, true, false, cond, eqb, is_none, ◌&&◌, Some, None, refl, sym, ap, ◌∙◌, subst, arith}
+use Rattle.std.proofs.Common.{◌≡◌, ◌≢◌, ℕ, ◌+◌, ◌-◌, true, false, cond, eqb, is_none, ◌&&◌, Some, None, refl, sym, ap, ◌∙◌, subst, arith}
 use Rattle.std.specs.List.{Contains}
-use Rattle.std.proofs.lemmas.Bool.{eq-eqb, ne_eqb, cond_both, and_parts}
-use Rattle.spd_cons_core.specs.declared.key.Entry.{Entry}
+use Rattle.std.proofs.lemmas.Bool.{eq-eqb, ne_eqb, cond_both}
 use Rattle.spd_cons_core.specs.declared.key.Key.{Key}
 use Rattle.spd_cons_core.specs.declared.mind.Known.{Known}
 use Rattle.spd_cons_core.specs.declared.mind.Call.{Call}
@@ -12,11 +11,10 @@ use Rattle.spd_cons_core.specs.Spelling.{IsKey}
 use Rattle.spd_cons_core.specs.Seats.{seat_at, bucket, bucket_count}
 use Rattle.spd_cons_core.specs.Events.{call_for, can_load_bucket, after_empty, after_bucket}
 use Rattle.spd_cons_core.proofs.CallerLemmas.{bucket_below, key_unknown}
-use Rattle.spd_cons.specs.declared.view.Size.{Size}
 use Rattle.spd_cons.specs.declared.view.View.{View}
 use Rattle.spd_cons.specs.declared.search.Search.{Search}
 use Rattle.spd_cons.specs.Told.{Mine, Sees, TellsBucket}
-use Rattle.spd_cons.specs.Searching.{stored_of, call_at, held, IsReady, IsComparing, IsEmpty, LooksInto}
+use Rattle.spd_cons.specs.Searching.{stored_of, call_at, held, IsReady, LooksInto}
 
 -- the key for which an empty bucket was loaded isn't known
 unknown-there : (key : Key) (v : View) (sees : Sees v) (found : ℕ) → IsKey key → can_load_bucket key v.mind ≡ true → found ≡ bucket sees.machine (call_for v.size.count key v.mind).at → found ≡ 0 → (k : Known) → Contains v.mind.knows k → k.key ≢ key
@@ -40,10 +38,10 @@ looks-into s found end m m' at fits is_end tells =
       spare = ap (λ (z : View). z.mind.spare) now ∙ after-spare call found v.mind;
       full = λ n. (
         let low = bucket_below was.machine was.sized was.sound (call_for v.size.count s.key v.mind).at in
-        let read = tells.0.read in
-        let limit = was.limit in
-        let most = was.most in
-        omega arith,
+            let read = tells.0.read in
+            let limit = was.limit in
+            let most = was.most in
+            omega arith,
         record { call = ap (λ (z : View). z.mind.call) (filled n) },
       );
       unknown = unknown-there s.key v was found fits at.can tells.0.read;

@@ -1,6 +1,5 @@
 -- What a step of the running table makes of its machine: it is the machine's event.
-use Rattle.std.proofs.Common.{◌≡◌, ◌≢◌, ℕ, ◌+◌, ◌*◌, ◌<◌, ◌≤◌, Bool, true, cond, eqb, List, map, take, drop, set, get_or, length, refl, sym, ap, ◌∙◌, arith, Some, None, Option}
-use Rattle.std.proofs.lemmas.Bool.{cond-true}
+use Rattle.std.proofs.Common.{◌≡◌, ℕ, ◌+◌, ◌*◌, ◌<◌, ◌≤◌, true, cond, eqb, map, take, drop, set, get_or, length, refl, sym, ap, ◌∙◌, arith, Some}
 use Rattle.std.proofs.lemmas.List.{map-set, drop-set-lt, drop-set-add, get_or-set_same, get_or-set_other, get_or-drop}
 use lib.ListN.{get_elem?}
 use mathlib.Core.Option.{some}
@@ -11,7 +10,7 @@ use Rattle.spd_cons_core.specs.declared.mind.Call.{Call}
 use Rattle.spd_cons_core.specs.Views.{Seat, Machine}
 use Rattle.spd_cons_core.specs.Spelling.{words_of}
 use Rattle.spd_cons_core.specs.Seats.{spent, seat_at, with_seat, bucket, bucket_count, entry_words}
-use Rattle.spd_cons_core.specs.Events.{can_load_bucket, call_for, after_bucket, load_bucket, can_claim, after_claim, claim, can_store, store_in, store_content, can_exchange, after_exchange, exchange_bucket, can_compare, after_content, load_content}
+use Rattle.spd_cons_core.specs.Events.{can_load_bucket, call_for, after_bucket, load_bucket, can_claim, after_claim, claim, can_store, store_content, can_exchange, after_exchange, exchange_bucket, can_compare, after_content, load_content}
 use Rattle.spd_cons_core.proofs.CallerLemmas.{load_taken, claim_taken, store_taken, exchange_taken, content_taken}
 use Rattle.spd_cons.specs.declared.view.Size.{Size}
 use Rattle.spd_cons.specs.declared.view.View.{View}

@@ -1,5 +1,5 @@
 -- The steps that change no word: a look, a split, a join; and the table at its start.
-use Rattle.std.proofs.Common.{◌≡◌, ◌≢◌, ◌⊎◌, ℕ, zero, suc, ◌+◌, ◌-◌, ◌*◌, ◌<◌, ◌≤◌, Bool, true, false, not, is_none, ◌&&◌, eqb, List, [], ◌∷◌, ◌++◌, map, take, drop, set, get_or, length, replicate, Some, None, refl, sym, ap, ◌∙◌, subst, ⊎_elim, arith}
+use Rattle.std.proofs.Common.{◌≡◌, ◌≢◌, ◌⊎◌, ℕ, zero, suc, ◌+◌, ◌-◌, ◌*◌, ◌≤◌, true, not, is_none, ◌&&◌, eqb, List, [], ◌∷◌, ◌++◌, map, take, drop, set, get_or, length, replicate, None, refl, sym, ap, ◌∙◌, subst, ⊎_elim, arith}
 use Rattle.std.specs.List.{Contains}
 use Rattle.std.specs.Int.{IsNextPowerOfTwo}
 use Rattle.std.proofs.lemmas.Bool.{and_parts, and_from, cond-true, true≢false, not_from_false, ne_eqb}
@@ -7,27 +7,22 @@ use Rattle.std.proofs.lemmas.List.{map-set, set-get_or, take-replicate, drop-rep
 use mathlib.Core.List.{map-append}
 use lib.ListN.{get_elem?}
 use mathlib.Core.Option.{some, some-ne-none, some-injective}
-use Rattle.atomic_table.specs.Table.{Me, Allows, Splits, Joins, opening, keeps}
-use Rattle.atomic_table.proofs.Lists.{at_set, at_map, at_snoc, set_here, set_else}
-use Rattle.spd_cons_core.specs.declared.key.Entry.{Entry}
+use Rattle.atomic_table.specs.Table.{Allows, Splits, Joins, opening, keeps}
+use Rattle.atomic_table.proofs.Lists.{at_set, at_snoc, set_here, set_else}
 use Rattle.spd_cons_core.specs.declared.key.Key.{Key}
 use Rattle.spd_cons_core.specs.declared.mind.Known.{Known}
 use Rattle.spd_cons_core.specs.Views.{Seat, Machine}
-use Rattle.spd_cons_core.specs.Spelling.{words_of}
-use Rattle.spd_cons_core.specs.Seats.{spent, seat_at, with_seat, entry_words, is_known}
+use Rattle.spd_cons_core.specs.Seats.{spent, seat_at, with_seat, is_known}
 use Rattle.spd_cons_core.specs.Events.{can_split, after_split, split_off, split, can_join, after_join, join, new_machine}
-use Rattle.spd_cons_core.specs.Invariants.{IsSized, IsSound, Keeps, Stays}
-use Rattle.spd_cons_core.proofs.CallerLemmas.{keeps_same, known_key, words_tell, split_taken, split_keeps, join_keeps, new_sized, new_sound}
+use Rattle.spd_cons_core.specs.Invariants.{IsSized, IsSound, Keeps}
+use Rattle.spd_cons_core.proofs.CallerLemmas.{nothing_contained, keeps_same, known_key, words_tell, split_taken, split_keeps, join_keeps, new_sized, new_sound}
 use Rattle.spd_cons.specs.declared.view.Size.{Size}
 use Rattle.spd_cons.specs.declared.view.View.{View}
 use Rattle.spd_cons.specs.Ruled.{Running, machine_of, mind_of, word_place, fives, HasKey, IsView, IsRuled, first_view}
-use Rattle.spd_cons.specs.Told.{Mine, Sees, Learns, TellsLook, TellsKnown, split_view, new_view, joined_view, spent_view}
+use Rattle.spd_cons.specs.Told.{Mine, TellsLook, TellsKnown, split_view, new_view, joined_view, spent_view}
 use Rattle.spd_cons.proofs.Places.{inside, there, same_words, fives_at}
 use Rattle.spd_cons.proofs.Machines.{written, seat_is, loaded_machine}
-use Rattle.spd_cons.proofs.Ruling.{views_after, moved_view, has_key, ruled_after, sees}
-
-nothing : {A : Type 0} (x : A) → Contains [] x → ⊥
-nothing x at = let n = at.1 in absurd (omega arith)
+use Rattle.spd_cons.proofs.Ruling.{views_after, has_key, ruled_after, sees}
 
 -- a look
 
@@ -51,9 +46,8 @@ look_allowed k slots id me live s r homes at small =
     let c : Machine = machine_of k s in
     let old : ℕ = get_or s.words 0 0 in
     let w : View = record me.0 { heard = [] } in
-    let after : IsRuled k (written s 0 old id w) = ruled_after k s 0 old id w c r (loaded_machine k s 0 id w ∙ same_seats k s id me.0 at) (keeps_same c r.sized r.sound) mine.size (λ y none. absurd (nothing y none)) in
-    let here : get_elem? (set s.views id w) id ≡ some w = set_here s.views id w (inside s.views id me.0 at) in
-    (
+    let after : IsRuled k (written s 0 old id w) = ruled_after k s 0 old id w c r (loaded_machine k s 0 id w ∙ same_seats k s id me.0 at) (keeps_same c r.sized r.sound) mine.size (λ y none. absurd (nothing_contained y none)) in
+    let here : get_elem? (set s.views id w) id ≡ some w = set_here s.views id w (inside s.views id me.0 at) in (
       w,
       keeps,
       tt,
@@ -81,8 +75,7 @@ pub read_allowed : (k k' : Size) (slots id place : ℕ) (me : Mine) → k' ≡ k
 read_allowed k k' slots id place me is_k size live s r homes at small =
     let c : Machine = machine_of k' s in
     let same = seat_is k' s id me.0 at in
-    let seat = r.sound.seats id (ap (λ (z : Seat). z.live) same ∙ live) in
-    (
+    let seat = r.sound.seats id (ap (λ (z : Seat). z.live) same ∙ live) in (
       me.0,
       keeps,
       tt,
@@ -90,11 +83,11 @@ read_allowed k k' slots id place me is_k size live s r homes at small =
       (
         refl,
         λ x word in' five is.
-          let known = seat.known x (subst (λ (z : Seat). Contains z.knows x) (sym same) in') in
-          let below = (r.sound.only_claimed known.published.0 x.entry.0 known.published.1).below_end in
-          ap (λ p. get_or s.words p 0) (is ∙ ap (λ (z : Size). word_place z.count x.entry.0 word) (size ∙ sym is_k))
-          ∙ (sym (fives_at (k'.limit + k'.most) x.entry.0 word (drop (1 + k'.count) s.words) below five ∙ get_or-drop (1 + k'.count) s.words (x.entry.0 * 5 + word) 0)
-          ∙ ap (λ l. get_or l word 0) known.words),
+            let known = seat.known x (subst (λ (z : Seat). Contains z.knows x) (sym same) in') in
+            let below = (r.sound.only_claimed known.published.0 x.entry.0 known.published.1).below_end in
+            ap (λ p. get_or s.words p 0) (is ∙ ap (λ (z : Size). word_place z.count x.entry.0 word) (size ∙ sym is_k))
+            ∙ (sym (fives_at (k'.limit + k'.most) x.entry.0 word (drop (1 + k'.count) s.words) below five ∙ get_or-drop (1 + k'.count) s.words (x.entry.0 * 5 + word) 0)
+            ∙ ap (λ l. get_or l word 0) known.words),
       ),
     )
 
@@ -116,7 +109,7 @@ split_allowed k id v can s r at =
       width = r.width;
       views = λ i u e. ⊎_elim
           (views_after k s.views c now id (split_view v) law'.stays (λ _. record { size = mine.size; heard = λ y in'. has_key c now law'.stays y (mine.heard y in') }) r.views i u)
-          (λ (t : new_view v ≡ u). subst (λ (z : View). z.mind.live ≡ true → IsView k now z) t (λ _. record { size = mine.size; heard = λ y none. absurd (nothing y none) }))
+          (λ (t : new_view v ≡ u). subst (λ (z : View). z.mind.live ≡ true → IsView k now z) t (λ _. record { size = mine.size; heard = λ y none. absurd (nothing_contained y none) }))
           (at_snoc (set s.views id (split_view v)) (new_view v) u i e);
       sized = law'.sized;
       sound = law'.sound;
@@ -145,8 +138,8 @@ join_allowed k id other v u live live' rests rests' s r at apart at' =
     let law' : Keeps c now = subst (λ (l : List Seat). Keeps c (record c { seats = l })) (sym seats) law in
     let theirs = r.sound.seats other (ap (λ (z : Seat). z.live) seat' ∙ live') in
     let heard : (x : Known) → Contains u.mind.knows x → HasKey now x = λ x in'.
-      let was = theirs.known x (subst (λ (z : Seat). Contains z.knows x) (sym seat') in') in
-      has_key c now law'.stays x (record { published = was.published; words = was.words; in_range = was.in_range }) in
+    let was = theirs.known x (subst (λ (z : Seat). Contains z.knows x) (sym seat') in') in
+    has_key c now law'.stays x (record { published = was.published; words = was.words; in_range = was.in_range }) in
     let first : (i : ℕ) (z : View) → get_elem? views i ≡ some z → z.mind.live ≡ true → IsView k now z =
     views_after k s.views c now id (joined_view v u) law'.stays (λ _. record { size = mine.size; heard = heard }) r.views in
     record {
@@ -189,5 +182,5 @@ opens k ws is low high least most count =
     }
   where
     first_only : (i : ℕ) (v : View) → get_elem? (first_view k ∷ []) i ≡ some v → IsView k (machine_of k (opening ws [] (first_view k))) v
-    first_only zero v at = subst (IsView k (machine_of k (opening ws [] (first_view k)))) (some-injective (first_view k) v at) (record { size = refl; heard = λ y none. absurd (nothing y none) })
+    first_only zero v at = subst (IsView k (machine_of k (opening ws [] (first_view k)))) (some-injective (first_view k) v at) (record { size = refl; heard = λ y none. absurd (nothing_contained y none) })
     first_only (suc i) v at = absurd (some-ne-none v (sym at))

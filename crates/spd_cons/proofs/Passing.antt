@@ -1,14 +1,13 @@
 -- What one bucket shows, through the steps of its probe.
-use Rattle.std.proofs.Common.{◌≡◌, ◌≢◌, ◌⊎◌, ℕ, ◌+◌, ◌<◌, ◌≤◌, Bool, true, false, None, List, [], ◌∷◌, ◌++◌, is_none, ◌&&◌, refl, sym, ap, ◌∙◌, subst, inl, inr, ⊎_elim, arith}
+use Rattle.std.proofs.Common.{◌≡◌, ◌⊎◌, ℕ, true, None, [], ◌∷◌, ◌++◌, refl, sym, ap, ◌∙◌, subst, inl, inr, ⊎_elim}
 use Rattle.std.specs.List.{Contains}
 use Rattle.spd_cons_core.specs.declared.key.Entry.{Entry}
-use Rattle.spd_cons_core.specs.declared.mind.Known.{Known}
 use Rattle.spd_cons_core.specs.Seats.{learned}
 use Rattle.spd_cons.specs.declared.view.View.{View}
 use Rattle.spd_cons.specs.declared.search.Search.{Search}
 use Rattle.spd_cons.specs.declared.search.Probe.{Probe}
 use Rattle.spd_cons.specs.declared.search.Probe.TheVariants.{Got, Full, Other}
-use Rattle.spd_cons.specs.Searching.{stored_of, Held, held, Knows, GoesOn, Ends, IsUnknown, IsSame, Probes}
+use Rattle.spd_cons.specs.Searching.{Held, held, Knows, Ends, IsUnknown, Probes}
 use Rattle.spd_cons_core.specs.declared.key.Key.{Key}
 use Rattle.spd_cons_core.proofs.CallerLemmas.{learned_contains}
 use Rattle.spd_cons.specs.Told.{Sees}

@@ -1,22 +1,19 @@
 -- What the search knows after its exchange.
-use Rattle.std.proofs.Common.{◌≡◌, ◌≢◌, ◌⊎◌, ℕ, ◌+◌, ◌-◌, ◌<◌, ◌≤◌, Bool, true, false, cond, eqb, List, [], ◌∷◌, ◌++◌, Option, Some, None, unwrap_or, refl, sym, ap, ◌∙◌, subst, arith}
+use Rattle.std.proofs.Common.{◌≡◌, ◌≢◌, ℕ, ◌+◌, ◌-◌, true, false, cond, [], ◌∷◌, ◌++◌, Option, Some, None, unwrap_or, sym, ap, ◌∙◌, subst, arith}
 use Rattle.std.specs.List.{Contains}
-use Rattle.std.proofs.lemmas.Bool.{eq-eqb, ne_eqb, cond_both, true≢false, cases_Bool}
+use Rattle.std.proofs.lemmas.Bool.{eq-eqb, ne_eqb, cond_both}
 use Rattle.std.proofs.lemmas.List.Elements.{Contains-push}
 use Rattle.spd_cons_core.specs.declared.key.Entry.{Entry}
-use Rattle.spd_cons_core.specs.declared.key.Key.{Key}
 use Rattle.spd_cons_core.specs.declared.mind.Known.{Known}
-use Rattle.spd_cons_core.specs.declared.mind.Call.{Call}
 use Rattle.spd_cons_core.specs.declared.mind.Last.TheVariants.{Got}
-use Rattle.spd_cons_core.specs.Views.{Seat, Machine}
-use Rattle.spd_cons_core.specs.Spelling.{words_of}
-use Rattle.spd_cons_core.specs.Seats.{seat_at, bucket, entry, is_known, learned}
+use Rattle.spd_cons_core.specs.Views.{Seat}
+use Rattle.spd_cons_core.specs.Seats.{entry, is_known, learned}
 use Rattle.spd_cons_core.specs.Events.{after_exchange}
-use Rattle.spd_cons_core.proofs.CallerLemmas.{bucket_below, known_key, learned_known}
+use Rattle.spd_cons_core.proofs.CallerLemmas.{bucket_below, known_key}
 use Rattle.spd_cons.specs.declared.view.View.{View}
 use Rattle.spd_cons.specs.declared.search.Search.{Search}
 use Rattle.spd_cons.specs.Told.{Mine, Sees, TellsExchange, call_of, spare_of}
-use Rattle.spd_cons.specs.Searching.{stored_of, call_at, Held, held, IsComparing, IsEmpty, Knows, Publishes}
+use Rattle.spd_cons.specs.Searching.{stored_of, call_at, held, IsEmpty, Publishes}
 use Rattle.spd_cons.proofs.Allowed.{call_is}
 
 -- a spare isn't known
@@ -51,10 +48,10 @@ publishes s e found end m m' at spare is_end stored tells =
       listed = λ z. (ap (λ (w : View). w.mind.published) (win z), ap (λ (w : View). w.mind.spare) (win z));
       lost = λ n. (
         let low = bucket_below was.machine was.sized was.sound (call_of v.mind).at in
-        let read = tells.0.read in
-        let limit = was.limit in
-        let most = was.most in
-        omega arith,
+            let read = tells.0.read in
+            let limit = was.limit in
+            let most = was.most in
+            omega arith,
         record { call = ap (λ (w : View). w.mind.call) (lose n) ∙ (λ i. Some (call_at s s.at (Some (entry (found - 1))) 0 false (sym stored i))) },
       );
       held = λ n. (ap held (lose n), ap (λ (w : View). w.mind.spare) (lose n));

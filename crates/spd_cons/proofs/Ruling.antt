@@ -1,14 +1,13 @@
 -- A step of the running table that is an event of its machine keeps the rule.
-use Rattle.std.proofs.Common.{◌≡◌, ◌≢◌, ◌⊎◌, ℕ, ◌+◌, ◌*◌, ◌<◌, ◌≤◌, true, List, [], ◌∷◌, ◌++◌, set, get_or, length, refl, sym, ap, ◌∙◌, subst, ⊎_elim, arith, length-set}
+use Rattle.std.proofs.Common.{◌≡◌, ◌≢◌, ◌⊎◌, ℕ, true, List, set, get_or, refl, sym, ap, ◌∙◌, subst, ⊎_elim, arith, length-set}
 use Rattle.std.specs.List.{Contains}
 use lib.ListN.{get_elem?}
 use mathlib.Core.Option.{some}
 use Rattle.atomic_table.specs.Table.{Me, Allows, keeps}
-use Rattle.atomic_table.proofs.Lists.{at_set, at_snoc, set_here}
+use Rattle.atomic_table.proofs.Lists.{at_set, set_here}
 use Rattle.spd_cons_core.specs.declared.mind.Known.{Known}
 use Rattle.spd_cons_core.specs.declared.event.Event.{Event}
 use Rattle.spd_cons_core.specs.Views.{Seat, Machine}
-use Rattle.spd_cons_core.specs.Seats.{bucket}
 use Rattle.spd_cons_core.specs.Events.{step}
 use Rattle.spd_cons_core.specs.Invariants.{Keeps, Stays}
 use Rattle.spd_cons.specs.declared.view.Size.{Size}
@@ -83,8 +82,7 @@ allowed k slots id i me f told event word next live alive fits s r homes at smal
     let w : View = record me.0 { mind = next (told old) } in
     let h = fits s r at in
     let after : IsRuled k (written s i (f old) id w) = ruled_after k s i (f old) id w (step (machine_of k s) (event id)) r h.same h.law mine.size mine.heard in
-    let here : get_elem? (set s.views id w) id ≡ some w = set_here s.views id w (inside s.views id me.0 at) in
-    (
+    let here : get_elem? (set s.views id w) id ≡ some w = set_here s.views id w (inside s.views id me.0 at) in (
       w,
       keeps,
       tt,

@@ -5,7 +5,6 @@ use Rattle.spd_cons_core.specs.declared.key.Entry.{Entry}
 use Rattle.spd_cons_core.specs.declared.key.Key.{Key}
 use Rattle.spd_cons_core.specs.declared.mind.Known.{Known}
 use Rattle.spd_cons_core.specs.declared.mind.Call.{Call}
-use Rattle.spd_cons_core.specs.Views.{Seat}
 use Rattle.spd_cons_core.specs.Seats.{learned}
 use Rattle.spd_cons_core.specs.Spelling.{words_of, start_of}
 use Rattle.spd_cons_core.specs.Events.{can_load_bucket, call_for, next_bucket}

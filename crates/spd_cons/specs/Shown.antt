@@ -17,6 +17,8 @@ pub record IsActive (a : ActiveSeat) : Type 0 where
   pub spare : (view_of a).mind.spare ≡ a.spare
   pub ended : (view_of a).mind.ended ≡ a.ended
   pub published : a.published ≡ length (view_of a).mind.published
+  pub stands : (view_of a).mind.stands ≡ a.stands
+  pub splits : (view_of a).mind.splits ≡ a.splits
 
 abbrev pub shown : Inside → SeatValue
 shown s = record { table = record { id = s.active.token.table_id; size = (view_of s.active).size }; mind = (view_of s.active).mind }

@@ -1,5 +1,5 @@
 -- What each atomic step of the running table tells its seat.
-use Rattle.std.specs.Prelude.{◌≡◌, ℕ, ◌+◌, ◌<◌, true, List, [], slice_index, Option, Some, None, unwrap_or}
+use Rattle.std.specs.Prelude.{◌≡◌, ℕ, ◌+◌, ◌<◌, true, [], slice_index, Some, unwrap_or}
 use Rattle.std.specs.List.{Contains}
 use Rattle.atomic_table.specs.Table.{Me}
 use Rattle.spd_cons_core.specs.declared.key.Entry.{Entry}
@@ -14,7 +14,6 @@ use Rattle.spd_cons_core.specs.Spelling.{words_of}
 use Rattle.spd_cons_core.specs.Seats.{spent, bucket, entry, entry_words, is_known}
 use Rattle.spd_cons_core.specs.Events.{new_call, call_for, after_bucket, after_claim, after_exchange, after_content, after_split, split_off, after_join, step}
 use Rattle.spd_cons.specs.declared.view.View.{View}
-use Rattle.spd_cons.specs.declared.view.Size.{Size}
 use Rattle.spd_cons.specs.Values.{IsSeated}
 use Rattle.spd_cons.specs.Ruled.{word_place}
 

@@ -1,5 +1,5 @@
 -- What contracts see of a table and of its seats, and what the calls do to a seat.
-use Rattle.std.specs.Prelude.{◌≡◌, ◌≢◌, ℕ, ◌+◌, ◌-◌, ◌<◌, ◌≤◌, ◌⊎◌, true, IsTrue, List, [], ◌∷◌, ◌++◌, length, Some, None}
+use Rattle.std.specs.Prelude.{◌≡◌, ◌≢◌, ℕ, ◌-◌, ◌<◌, ◌≤◌, ◌⊎◌, true, [], ◌∷◌, ◌++◌, length, None}
 use Rattle.std.specs.List.{Contains}
 use Rattle.atomic_table.specs.Seated.{TableId}
 use Rattle.spd_cons_core.specs.declared.key.Entry.{Entry}

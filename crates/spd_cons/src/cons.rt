@@ -1,5 +1,5 @@
 //! The calls of the table.
-ghost use Rattle.std.specs.Prelude.{◌≡◌, ℕ, ◌+◌, ◌<◌, ◌≤◌, IsTrue, IfOk, IfErr, length};
+ghost use Rattle.std.specs.Prelude.{◌≡◌, ◌+◌, ◌<◌, ◌≤◌, ◌==◌, IsTrue, IfOk, IfErr, length};
 ghost use Rattle.std.specs.List.{Contains};
 ghost use Rattle.spd_cons_core.specs.Seats.{is_known, parts_known};
 ghost use Rattle.spd_cons_core.specs.Events.{after_split, split_off};
@@ -60,6 +60,8 @@ impl Cons {
             spare: None,
             ended: false,
             published: 0,
+            stands: 1,
+            splits: seats - 1,
         };
         Ok((Cons { words }, Seat { active }))
     }
@@ -101,10 +103,7 @@ impl Cons {
             at: start_bucket(&key, self.words.bits),
             stored: false,
         };
-        match self
-            .words
-            .search_on::<Brand>(&mut seat.active, &mut search)
-        {
+        match self.words.search_on::<Brand>(&mut seat.active, &mut search) {
             Some(e) => Ok(e),
             None => Err(Full),
         }
@@ -129,12 +128,17 @@ impl Cons {
         ensures made { result ≡ record { table = seat.old.table; mind = split_off seat.old.mind } }
     {
         let token = self.words.split_token(&mut seat.active.token);
+        // A new seat has published nothing, whatever the other one has.
+        let published = 0;
         let active = ActiveSeat {
             token,
             spare: None,
             ended: false,
-            published: 0,
+            published,
+            stands: 1,
+            splits: 0,
         };
+        seat.active.splits -= 1;
         Seat { active }
     }
 
@@ -148,16 +152,24 @@ impl Cons {
         ensures after { IsSeatOf seat.new }
     {
         let Seat { active: theirs } = other;
-        self.words
-            .join_token(&mut seat.active.token, theirs.token);
+        self.words.join_token(&mut seat.active.token, theirs.token);
         self.words.look(&mut seat.active.token);
         seat.active.spare = seat.active.spare.or(theirs.spare);
         seat.active.ended = seat.active.ended | theirs.ended;
         seat.active.published += theirs.published;
+        seat.active.stands += theirs.stands;
+        seat.active.splits += theirs.splits;
     }
 
-    /// Closes the table, and answers how many entries are published. The seat is all seats of the table: those
-    /// that it stands for and its splits left are as many as may be made.
+    /// Whether a seat is all seats of the table: those that it stands for and its splits left are as many as may
+    /// be made.
+    pub fn is_whole(&self, seat: &Seat) -> bool
+        ensures { result ≡ (shares seat.now.mind == self.now.size.most) }
+    {
+        u64::from(seat.stands()) + u64::from(seat.splits()) == u64::from(self.words.size.most)
+    }
+
+    /// Closes the table, and answers how many entries are published. The seat is all seats of the table.
     pub fn made(self, seat: Seat) -> usize
         requires own { seat.table ≡ self }
         requires all { shares seat.mind ≡ self.size.most }

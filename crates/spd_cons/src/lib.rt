@@ -16,3 +16,5 @@ pub use cons::{Cons, Full};
 pub use seat::Seat;
 pub use view::Size;
 
+#[cfg(test)]
+mod tests;

@@ -1,8 +1,8 @@
 //! The steps of a search.
-ghost use Rattle.std.specs.Prelude.{◌≡◌, ℕ, ◌+◌, ◌*◌, ◌^◌, ◌<◌, ◌≤◌, ◌≢◌, true, false, cond, Some, None, IfSome, IfNone, IsTrue, IsFalse, length, is_none, ◌&&◌, ◌⊎◌, [], ◌∷◌, ◌++◌};
+ghost use Rattle.std.specs.Prelude.{◌≡◌, ◌+◌, ◌<◌, true, false, Some, None, IfSome, IfNone, IsTrue, IsFalse, is_none, ◌&&◌, ◌⊎◌, [], ◌∷◌, ◌++◌};
 ghost use Rattle.spd_cons_core.specs.Spelling.{IsKey, words_of, start_of};
 ghost use Rattle.spd_cons.specs.Shown.{IsActive, view_of};
-ghost use Rattle.spd_cons.specs.Searching.{held, IsReady, IsComparing, GoesOn, IsEmpty, Compares, LooksInto, Publishes, stored_of, Claimed, HasSpare, Ends, Probes, IsSame, IsUnknown, StandsAt, Knows};
+ghost use Rattle.spd_cons.specs.Searching.{held, IsReady, IsComparing, GoesOn, IsEmpty, Compares, LooksInto, Publishes, stored_of, HasSpare, Ends, Probes, IsSame, IsUnknown, StandsAt, Knows};
 
 use crate::plays::Searched;
 use crate::search::{Probe, Search};
@@ -228,7 +228,8 @@ impl WordTable {
         if found == 0 {
             return Probe::Got(e);
         }
-        self.compared(active, search, Entry((found - 1) as u32))
+        let first = Entry((found - 1) as u32);
+        self.compared(active, search, first)
     }
 
     /// Tries one bucket.
@@ -252,7 +253,11 @@ impl WordTable {
     }
 
     /// Searches from the search's bucket on, which is its start.
-    pub(crate) fn search_on<K: Searched>(&self, active: &mut ActiveSeat, search: &mut Search) -> Option<Entry>
+    pub(crate) fn search_on<K: Searched>(
+        &self,
+        active: &mut ActiveSeat,
+        search: &mut Search,
+    ) -> Option<Entry>
         requires active { IsActive active.old }
         requires own { (active.old.token.table_id ≡ self.now.table.shared.table_id) × ((view_of active.old).size ≡ self.now.size) }
         requires key { K.key ≡ search.old.key }

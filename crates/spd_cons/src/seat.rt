@@ -16,6 +16,10 @@ pub struct ActiveSeat {
     pub(crate) ended: bool,
     /// How many entries it published itself.
     pub(crate) published: usize,
+    /// For how many seats it stands: itself, and those that were joined into it.
+    pub(crate) stands: u32,
+    /// How many times it may still be split.
+    pub(crate) splits: u32,
 }
 
 /// A seat of the table: one user of it at a time. Contracts see of which table it is, and what it is
@@ -60,6 +64,20 @@ impl Seat {
         ensures { result ≡ is_some self.now.mind.spare }
     {
         self.active.spare.is_some()
+    }
+
+    /// For how many seats it stands: itself, and those that were joined into it.
+    pub fn stands(&self) -> u32
+        ensures { result ≡ self.now.mind.stands }
+    {
+        self.active.stands
+    }
+
+    /// How many times it may still be split.
+    pub fn splits(&self) -> u32
+        ensures { result ≡ self.now.mind.splits }
+    {
+        self.active.splits
     }
 
     /// What holds of every seat.

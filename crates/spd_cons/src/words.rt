@@ -1,16 +1,18 @@
 //! The words of the table, and its atomic steps.
-ghost use Rattle.std.specs.Prelude.{◌≡◌, ◌+◌, ◌*◌, ◌^◌, ◌-◌, ◌<◌, ◌≤◌, true, false, Some, None, [], ◌∷◌, ◌++◌, IfOk, IfSome, IfNone, length, slice_index};
+ghost use Rattle.std.specs.Prelude.{◌≡◌, ◌+◌, ◌*◌, ◌^◌, ◌<◌, ◌≤◌, true, Some, None, [], IfOk, slice_index};
 ghost use Rattle.std.specs.Int.{IsNextPowerOfTwo};
 ghost use Rattle.std.specs.List.{Contains};
 ghost use Rattle.spd_cons_core.specs.declared.key.Key.{Key};
-ghost use Rattle.spd_cons_core.specs.declared.mind.Call.{Call};
 ghost use Rattle.spd_cons_core.specs.Spelling.{words_of, IsKey};
 ghost use Rattle.spd_cons_core.specs.Events.{can_load_bucket, call_for, can_claim, can_split, can_store, can_exchange, can_compare};
 ghost use Rattle.spd_cons.specs.Ruled.{first_view, word_place};
 ghost use Rattle.spd_cons.specs.Values.{known};
-ghost use Rattle.spd_cons.specs.Told.{Sees, TellsBucket, TellsClaim, TellsStore, TellsExchange, TellsContent, TellsLook, TellsKnown, split_view, new_view, joined_view, call_of, spare_of, found_of};
+ghost use Rattle.spd_cons.specs.Told.{TellsBucket, TellsClaim, TellsStore, TellsExchange, TellsContent, TellsLook, split_view, new_view, joined_view, call_of, spare_of, found_of};
 
-use crate::plays::{Claims, ExchangesBucket, JoinsSeats, LoadsBucket, LoadsContent, Looks, ReadsKnown, Searched, SplitsSeat, StoresContent};
+use crate::plays::{
+    Claims, ExchangesBucket, JoinsSeats, LoadsBucket, LoadsContent, Looks, ReadsKnown, Searched,
+    SplitsSeat, StoresContent,
+};
 use crate::rule::SoundTable;
 use crate::seat::Token;
 use crate::view::{Size, View};
@@ -34,7 +36,11 @@ pub struct WordTable {
 
 impl WordTable {
     /// An empty table, with the token of its first seat.
-    pub(crate) fn open(alloc: Global, size: Size, bits: u32) -> Result<(WordTable, Token), AllocError>
+    pub(crate) fn open(
+        alloc: Global,
+        size: Size,
+        bits: u32,
+    ) -> Result<(WordTable, Token), AllocError>
         requires limit { (16 ≤ size.limit) × (size.limit ≤ 8388608) }
         requires most { (1 ≤ size.most) × (size.most ≤ 128) }
         requires count { IsNextPowerOfTwo (2 * (size.limit + size.most)) size.count }
@@ -111,12 +117,9 @@ impl WordTable {
         ensures own { token.new.table_id ≡ token.old.table_id }
         ensures tells { TellsExchange token.old.me result token.new.me }
     {
-        self.table.shared.compare_exchange::<ExchangesBucket>(
-            token,
-            at as usize + 1,
-            0,
-            e.0 as u64 + 1,
-        )
+        self.table
+            .shared
+            .compare_exchange::<ExchangesBucket>(token, at as usize + 1, 0, e.0 as u64 + 1)
     }
 
     /// Loads a word of the entry that the seat's call has found.

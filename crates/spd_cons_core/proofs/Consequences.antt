@@ -1,5 +1,5 @@
 -- What follows from the invariant.
-use Rattle.std.proofs.Common.{to_z, ◌↔◌, ◌&&◌, ◌≡◌, ◌≢◌, ◌⊎◌, ℕ, ◌+◌, ◌*◌, ◌^◌, ◌<◌, ◌≤◌, ℤ, Bool, true, false, cond, eqb, List, [], ◌∷◌, length, get_or, set, sum_by, count_by, zero, suc, refl, sym, ap, ◌∙◌, subst, inl, inr, ⊎_elim, arith, FitsSigned}
+use Rattle.std.proofs.Common.{to_z, ◌↔◌, ◌&&◌, ◌≡◌, ◌≢◌, ◌⊎◌, ℕ, ◌+◌, ◌*◌, ◌^◌, ◌<◌, ◌≤◌, ℤ, Bool, true, false, cond, eqb, List, [], ◌∷◌, length, get_or, set, sum_by, count_by, suc, refl, sym, ap, ◌∙◌, subst, inl, inr, ⊎_elim, arith, FitsSigned}
 use Rattle.std.specs.List.{All, Contains}
 use Rattle.std.specs.Int.{w128, cast_unsigned}
 use Rattle.std.proofs.lemmas.Bool.{true≢false, eqb-false, eqb-true, eq-eqb, and_from, and_parts, cases_Bool, cases_eq}
@@ -171,12 +171,12 @@ listed_there [] e some = absurd (omega arith)
 listed_there (x ∷ xs) e some = ⊎_elim
     (λ (here : eqb x.0 e ≡ true). (0, omega arith, ap entry (eqb-true x.0 e here)))
     (λ (other : eqb x.0 e ≡ false).
-      let one : Entry → ℕ = λ p. cond (eqb p.0 e) 1 0 in
-      let parts : sum_by one (x ∷ xs) ≡ one x + sum_by one xs = sum_by-cons one x xs in
-      let none : one x ≡ 0 = ap (λ (b : Bool). cond b 1 0) other in
-      let some' : 0 < sum_by one (x ∷ xs) = some in
-      let rest : 0 < count_by (λ p. eqb p.0 e) xs = more (sum_by one (x ∷ xs)) (one x) (sum_by one xs) parts none some' in
-      contains_cons x xs (entry e) (listed_there xs e rest))
+    let one : Entry → ℕ = λ p. cond (eqb p.0 e) 1 0 in
+    let parts : sum_by one (x ∷ xs) ≡ one x + sum_by one xs = sum_by-cons one x xs in
+    let none : one x ≡ 0 = ap (λ (b : Bool). cond b 1 0) other in
+    let some' : 0 < sum_by one (x ∷ xs) = some in
+    let rest : 0 < count_by (λ p. eqb p.0 e) xs = more (sum_by one (x ∷ xs)) (one x) (sum_by one xs) parts none some' in
+    contains_cons x xs (entry e) (listed_there xs e rest))
     (cases_Bool (eqb x.0 e))
   where
     more : (a b c : ℕ) → a ≡ b + c → b ≡ 0 → 0 < a → 0 < c
@@ -190,11 +190,11 @@ listed_at_most_once c sound i live e =
     ⊎_elim
     (λ (none : times_listed e (seat_at c i) ≡ 0). omega arith)
     (λ (some : times_listed e (seat_at c i) ≡ 0 → ⊥).
-      let k = known_at (seat_at c i).knows (entry e) ((sound.seats i live).own_known (entry e) (listed_there (seat_at c i).published e (omega (arith, some)))) in
-      let known = (sound.seats i live).known k.0 k.1 in
-      let names : Names c known.published.0 e = known.published.1 ∙ ap (λ (n : ℕ). n + 1) k.2 in
-      let one = sound.listed_once known.published.0 e names in
-      omega arith)
+    let k = known_at (seat_at c i).knows (entry e) ((sound.seats i live).own_known (entry e) (listed_there (seat_at c i).published e (omega (arith, some)))) in
+    let known = (sound.seats i live).known k.0 k.1 in
+    let names : Names c known.published.0 e = known.published.1 ∙ ap (λ (n : ℕ). n + 1) k.2 in
+    let one = sound.listed_once known.published.0 e names in
+    omega arith)
     (cases_eq (times_listed e (seat_at c i)) 0)
 
 -- The test of two keys decides whether they are equal -------------------------------------------

@@ -1,9 +1,8 @@
 -- A key whose search comes to an empty bucket is published nowhere.
-use Rattle.std.proofs.Common.{◌≡◌, ◌≢◌, ◌⊎◌, ℕ, ◌+◌, ◌<◌, ◌≤◌, Bool, true, not, is_none, ◌&&◌, get_or, Option, Some, None, unwrap_or, refl, sym, ap, ◌∙◌, subst, ⊎_elim, arith}
+use Rattle.std.proofs.Common.{◌≡◌, ◌≢◌, ◌⊎◌, ℕ, ◌+◌, true, not, is_none, ◌&&◌, Option, Some, None, unwrap_or, refl, sym, ap, ◌∙◌, subst, ⊎_elim, arith}
 use Rattle.std.specs.List.{Contains}
 use Rattle.std.specs.Option.{option_map_or}
-use Rattle.std.proofs.lemmas.List.{get_or_past}
-use Rattle.std.proofs.lemmas.Bool.{cases_lt, and_parts}
+use Rattle.std.proofs.lemmas.Bool.{and_parts}
 use Rattle.spd_cons_core.specs.declared.key.Key.{Key}
 use Rattle.spd_cons_core.specs.declared.mind.Known.{Known}
 use Rattle.spd_cons_core.specs.declared.mind.Call.{Call}
@@ -12,15 +11,10 @@ use Rattle.spd_cons_core.specs.Spelling.{words_of, start_of, IsKey}
 use Rattle.spd_cons_core.specs.Seats.{seat_at, bucket, bucket_count, Names, entry_words, same_key, parts_known}
 use Rattle.spd_cons_core.specs.Events.{call_for, can_load_bucket, new_call}
 use Rattle.spd_cons_core.specs.Invariants.{IsSized, IsSound, IsSearch, IsPassed}
+use Rattle.spd_cons_core.proofs.Exchanges.{named_within}
 use Rattle.spd_cons_core.proofs.Starts.{passed_order}
 use Rattle.spd_cons_core.proofs.LoadsBucket.{ready}
 use Rattle.spd_cons_core.proofs.Consequences.{same_key_tells}
-
-named_within : (c : Machine) (b e : ℕ) → Names c b e → b < bucket_count c
-named_within c b e names =
-    ⊎_elim (λ (within : b < bucket_count c). within)
-    (λ (past : bucket_count c ≤ b). let zero : bucket c b ≡ 0 = get_or_past c.buckets b 0 past in absurd (omega arith))
-    (cases_lt b (bucket_count c))
 
 -- a search that stands at an empty bucket
 search_unpublished : (c : Machine) (seat : Seat) (call : Call) → IsSound c → IsSearch c seat call → bucket c call.at ≡ 0 → (b e : ℕ) → Names c b e → entry_words c e ≢ words_of call.key

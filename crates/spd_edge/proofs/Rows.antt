@@ -2,7 +2,7 @@
 use Rattle.std.proofs.Common.{◌≡◌, ◌-◌, ◌^◌, [], ◌∷◌, None, Some, true, false, refl, lit≤}
 use Rattle.spd_edge.specs.Counts.{Rose}
 use Rattle.spd_edge.specs.Told.{Gave, Took}
-use Rattle.spd_edge.specs.Names.{is_among, without}
+use Rattle.spd_edge.specs.Names.{is_among}
 use Rattle.spd_edge.specs.Memory.{Input, Output, is_failing, number_after, bytes_given, after_giving, is_refusing, bytes_taken, after_taking}
 
 -- a count that rises, and one that stands at its last value
@@ -64,9 +64,3 @@ empty_piece : is_refusing (after_taking narrow (3 ∷ [])) [] ≡ false
 unfolding narrow
 empty_piece = refl
 
--- two names, and one of them taken away
-among : is_among ((97 ∷ []) ∷ (98 ∷ []) ∷ []) (98 ∷ []) ≡ true
-among = refl
-
-taken_away : without ((97 ∷ []) ∷ (98 ∷ []) ∷ []) (97 ∷ []) ≡ (98 ∷ []) ∷ []
-taken_away = refl

@@ -1,5 +1,5 @@
 -- The parts of the text of a number: what the code reads of it from left to right.
-use Rattle.std.proofs.Common.{◌≡◌, ◌≢◌, ℕ, zero, suc, ◌+◌, ◌-◌, ◌*◌, ◌^◌, ◌<◌, ◌≤◌, Bool, true, false, cond, not, ◌&&◌, ◌||◌, eqb, ltb, leb, List, [], ◌∷◌, ◌++◌, length, take, drop, get_or, Option, Some, None, ℤ, pos, ◌-ℤ◌, refl, sym, ap, ◌∙◌, arith, append-nil, append_assoc, drop-cons, add-one, take_all}
+use Rattle.std.proofs.Common.{◌≡◌, ◌≢◌, ℕ, suc, ◌+◌, ◌-◌, ◌*◌, ◌^◌, ◌<◌, ◌≤◌, Bool, true, false, cond, ◌&&◌, ◌||◌, eqb, ltb, List, [], ◌∷◌, ◌++◌, length, take, drop, get_or, Option, Some, None, ℤ, pos, ◌-ℤ◌, refl, sym, ap, ◌∙◌, arith, drop-cons, add-one, take_all}
 use Rattle.std.proofs.lemmas.Grind.{common_steps}
 use Rattle.std.proofs.Math.Seq.{take-suc}
 use Rattle.std.proofs.lemmas.Bool.Decides.{nat_tests}
@@ -8,9 +8,8 @@ use Rattle.std.specs.Char.{is_ascii_digit, digit_value}
 use Rattle.std.specs.Str.Parse.{AllDigits, digits_value, digits_value_after}
 use Rattle.std.proofs.lemmas.Str.Parse.{digit_at, digit_from_value}
 use Rattle.std.proofs.lemmas.Str.{digit_value_digit}
-use Rattle.std.proofs.lemmas.Int.Digits.{digits_value-lt, digits_value_push}
+use Rattle.std.proofs.lemmas.Int.Digits.{digits_value-lt}
 use Rattle.spd_scaled.proofs.DecimalUnits.{ten_up}
-use Rattle.spd_scaled.specs.Decimal.{with_sign}
 use Rattle.spd_scaled.specs.DecimalReading.{sign_at, digits_at, fraction_at, exponent_at, exponent_step, without_zero, without_end_zeros, are_exponent_digits, read_value, value_step, lowest_of, number_step, decimal_of}
 
 -- ---- the bytes behind the first
@@ -204,6 +203,7 @@ without_end_zeros-append (x ∷ xs) ys = ap (without_zero x) (without_end_zeros-
     some : (ws zs : List ℕ) (z : ℕ) → without_zero x (ws ++ z ∷ zs) ≡ x ∷ (ws ++ z ∷ zs)
     some [] zs z = refl
     some (w ∷ ws) zs z = refl
+
     kept : (zs : List ℕ) → without_zero x (cond (eqb (length zs) 0) (without_end_zeros xs) (xs ++ zs)) ≡ cond (eqb (length zs) 0) (without_zero x (without_end_zeros xs)) (x ∷ (xs ++ zs))
     kept [] = refl
     kept (z ∷ zs) = let no : eqb (length (z ∷ zs)) 0 ≡ false = grind (arith, nat_tests) in rw (no) (some xs zs z)

@@ -1,12 +1,10 @@
 -- Reading the text of a number gives the decimal that it writes, and no other.
-use Rattle.std.proofs.Common.{◌≡◌, ◌≢◌, ℕ, zero, suc, ◌+◌, ◌-◌, ◌^◌, ◌<◌, ◌≤◌, ◌⊎◌, inl, inr, Bool, true, false, cond, ◌&&◌, ◌||◌, eqb, leb, List, [], ◌∷◌, ◌++◌, length, take, drop, get_or, Option, Some, None, ℤ, pos, ◌-ℤ◌, refl, sym, ap, subst, ◌∙◌, arith, append-nil, lit<}
+use Rattle.std.proofs.Common.{◌≡◌, ◌≢◌, ℕ, suc, ◌+◌, ◌^◌, ◌<◌, ◌≤◌, ◌⊎◌, inl, inr, Bool, true, false, cond, ◌||◌, eqb, List, [], ◌∷◌, ◌++◌, length, get_or, Option, Some, None, ℤ, pos, ◌-ℤ◌, refl, sym, ap, subst, ◌∙◌, arith, append-nil}
 use Rattle.std.proofs.lemmas.List.{take-append-drop}
-use Rattle.std.proofs.lemmas.Grind.{common_steps}
 use Rattle.std.proofs.lemmas.Bool.Decides.{nat_tests}
 use Rattle.std.specs.List.{list_all, prefix_len}
-use Rattle.std.specs.Char.{is_ascii_digit, digit_value}
+use Rattle.std.specs.Char.{is_ascii_digit}
 use Rattle.std.specs.Str.Parse.{AllDigits, digits_value}
-use Rattle.std.proofs.lemmas.Str.Parse.{digit_from_value}
 use Rattle.spd_scaled.specs.declared.decimal.Decimal.{Decimal}
 use Rattle.spd_scaled.specs.Decimal.{Sign, bare, plus, minus, sign_bytes, is_minus, Exponent, Numeral, fraction_text, exponent_text, numeral_text, digits_behind, IsExponent, IsNumeral, digits_of, with_sign, exponent_of, places_of, IsLowest, Writes}
 use Rattle.spd_scaled.specs.DecimalReading.{sign_at, digits_at, fraction_at, exponent_at, exponent_step, are_exponent_digits, lowest_of, number_step, decimal_of}
@@ -28,6 +26,7 @@ sign_read (c ∷ cs) = by_minus (eqb c 45) refl
     by_plus : (b : Bool) → eqb c 43 ≡ b → SignRead (c ∷ cs) (cond b (false, cs) (false, c ∷ cs))
     by_plus true e = let is : c ≡ 43 = grind (arith, nat_tests) in record { sign = plus; spelled = ap (λ (k : ℕ). k ∷ cs) is; says = refl }
     by_plus false e = record { sign = bare; spelled = refl; says = refl }
+
     by_minus : (b : Bool) → eqb c 45 ≡ b → SignRead (c ∷ cs) (cond b (true, cs) (cond (eqb c 43) (false, cs) (false, c ∷ cs)))
     by_minus true e = let is : c ≡ 45 = grind (arith, nat_tests) in record { sign = minus; spelled = ap (λ (k : ℕ). k ∷ cs) is; says = refl }
     by_minus false e = by_plus (eqb c 43) refl

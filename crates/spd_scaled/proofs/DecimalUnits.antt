@@ -1,15 +1,14 @@
 -- How many units a decimal is.
-use Rattle.std.proofs.Common.{◌≡◌, ◌≢◌, ℕ, zero, suc, ◌+◌, ◌-◌, ◌*◌, ◌/◌, ◌%◌, ◌^◌, ◌<◌, ◌≤◌, Bool, true, false, cond, eqb, leb, Ok, Err, Result, ℤ, pos, negsuc, ◌-ℤ◌, ◌<ℤ◌, ◌≤ℤ◌, unsigned_abs, refl, sym, ap, ◌∙◌, arith, lit<, lit≤}
-use Rattle.std.proofs.Math.Nat.{pow-suc, mul-mod_left, div-mul_cancel, dvd_of_mod-eq-zero, mul-div-mul_right, mul-div_cancel, one-le-pow, pow-le-pow_right, mul-le-mul, mul-le-mul_right, lt-div-mul-add, mod-eq_of_lt}
+use Rattle.std.proofs.Common.{◌≡◌, ℕ, zero, suc, ◌+◌, ◌*◌, ◌/◌, ◌%◌, ◌^◌, ◌<◌, ◌≤◌, Bool, true, false, cond, eqb, leb, Ok, Err, ℤ, pos, negsuc, ◌-ℤ◌, ◌<ℤ◌, ◌≤ℤ◌, unsigned_abs, refl, sym, ap, arith, lit<}
+use Rattle.std.proofs.Math.Nat.{mul-mod_left, div-mul_cancel, dvd_of_mod-eq-zero, mul-div-mul_right, mul-div_cancel, one-le-pow, pow-le-pow_right, mul-le-mul, mul-le-mul_right, lt-div-mul-add, mod-eq_of_lt}
 use Rattle.std.proofs.Math.Arith.{mod-mul}
 use Rattle.std.proofs.lemmas.Nat.{pow-add}
 use Rattle.std.proofs.lemmas.Int.{ints}
 use Rattle.std.proofs.lemmas.Bool.Decides.{nat_tests}
 use Rattle.spd_scaled.specs.declared.decimal.Decimal.{Decimal}
-use Rattle.spd_scaled.specs.declared.decimal.Scale.{Scale}
 use Rattle.spd_scaled.specs.declared.decimal.Scale.TheVariants.{TooFine, TooLarge}
-use Rattle.spd_scaled.specs.Decimal.{AreUnits, IsScaled, with_sign}
-use Rattle.spd_scaled.specs.DecimalReading.{limited, divided_by, units_from, signed_step, scaled_of}
+use Rattle.spd_scaled.specs.Decimal.{AreUnits, IsScaled}
+use Rattle.spd_scaled.specs.DecimalReading.{limited, divided_by, units_from, signed_step}
 
 -- ---- powers of ten
 

@@ -1,6 +1,6 @@
 -- The number that digits write, without the zeros at its end.
-use Rattle.std.proofs.Common.{◌≡◌, ◌≢◌, ℕ, zero, suc, ◌+◌, ◌-◌, ◌*◌, ◌%◌, ◌^◌, ◌<◌, ◌≤◌, Bool, true, false, cond, eqb, List, [], ◌∷◌, length, Option, Some, None, ℤ, pos, ◌+ℤ◌, ◌-ℤ◌, refl, sym, ap, ◌∙◌, arith}
-use Rattle.std.proofs.Math.Nat.{pow-suc, mul-mod_left, mod-eq_of_lt, mul-le-mul}
+use Rattle.std.proofs.Common.{◌≡◌, ◌≢◌, ℕ, zero, suc, ◌+◌, ◌-◌, ◌*◌, ◌%◌, ◌^◌, ◌<◌, ◌≤◌, Bool, true, false, cond, eqb, List, [], ◌∷◌, length, Option, Some, None, ℤ, pos, ◌-ℤ◌, refl, sym, ap, ◌∙◌, arith}
+use Rattle.std.proofs.Math.Nat.{pow-suc, mul-mod_left, mul-le-mul, mul-le-mul_left}
 use Rattle.std.proofs.lemmas.Nat.{mod-mul-add}
 use Rattle.std.proofs.lemmas.Int.{ints}
 use Rattle.std.proofs.lemmas.Bool.Decides.{nat_tests}
@@ -12,7 +12,7 @@ use Rattle.spd_scaled.specs.declared.decimal.Decimal.{Decimal}
 use Rattle.spd_scaled.specs.Decimal.{IsLowest}
 use Rattle.spd_scaled.specs.DecimalReading.{without_zero, without_end_zeros, read_value, value_step, lowest_of}
 use Rattle.spd_scaled.proofs.DecimalUnits.{ten_above}
-use Rattle.spd_scaled.proofs.DecimalParts.{length-kept, read_value-few, read_value-Some}
+use Rattle.spd_scaled.proofs.DecimalParts.{read_value-few, read_value-Some}
 
 -- ---- the zeros at the end are a power of ten
 
@@ -30,6 +30,7 @@ value_kept n (d ∷ ds) = at_rest (without_end_zeros ds) (value_kept (n * 10 + d
       where
         all : length ds - 0 ≡ length ds
         all = omega arith
+
         by_zero : (b : Bool) → eqb d 48 ≡ b → digits_value_after 10 (n * 10 + digit_value d) ds ≡ digits_value_after 10 n (cond b [] (d ∷ [])) * 10 ^ (suc (length ds) - length (cond b [] (d ∷ [])))
         by_zero true z =
             let is : d ≡ 48 = grind (arith, nat_tests) in
@@ -95,9 +96,13 @@ lowest_told negative zero zero z places d e last is = cc
 lowest_told negative zero (suc n) z places d e last is = let none = none_from_product (suc n) z e in absurd (omega arith)
 lowest_told negative (suc v) zero z places d e last is = absurd (omega arith)
 lowest_told negative (suc v) (suc n) z places d e last is =
-    let same : record { negative = negative; digits = suc n; places = places -ℤ pos z } ≡ d = cc in
-    (z, e ∙ ap (λ (k : Decimal). k.digits * 10 ^ z) same, (λ none. last (omega arith) (ap (λ (k : Decimal). k.digits % 10) same ∙ none)),
-    (let p : places -ℤ pos z ≡ d.places = ap (λ (k : Decimal). k.places) same in omega (arith, ints)), sym (ap (λ (k : Decimal). k.negative) same))
+    let same : record { negative = negative; digits = suc n; places = places -ℤ pos z } ≡ d = cc in (
+      z,
+      e ∙ ap (λ (k : Decimal). k.digits * 10 ^ z) same,
+      (λ none. last (omega arith) (ap (λ (k : Decimal). k.digits % 10) same ∙ none)),
+      (let p : places -ℤ pos z ≡ d.places = ap (λ (k : Decimal). k.places) same in omega (arith, ints)),
+      sym (ap (λ (k : Decimal). k.negative) same),
+    )
 
 lowest_every : (negative : Bool) (v n z : ℕ) (places : ℤ) (d : Decimal) → v ≡ n * 10 ^ z → (0 < n → n % 10 ≢ 0) → IsLowest negative v places d → d.digits < 10 ^ 38
     → value_step negative (places -ℤ pos z) (read_value n) ≡ Some d
@@ -129,12 +134,30 @@ lowest_of-told negative ds places d all is = by_read (read_value (digits_value 1
     by_read None e is = absurd (cc)
     by_read (Some n) e is =
         let value = read_value-Some n _ (sym e) in
-        let at_value : value_step negative (places -ℤ pos (length ds - length (without_end_zeros ds))) (Some (digits_value 10 (without_end_zeros ds))) ≡ Some d = rw (← value.0) is in
-        (lowest_told negative (digits_value 10 ds) (digits_value 10 (without_end_zeros ds)) (length ds - length (without_end_zeros ds)) places d (value_kept 0 ds) (kept_last ds all) at_value,
-        omega (arith, value.1, value_step-digits negative _ _ d at_value))
+        let at_value : value_step negative (places -ℤ pos (length ds - length (without_end_zeros ds))) (Some (digits_value 10 (without_end_zeros ds))) ≡ Some d = rw (← value.0) is in (
+          lowest_told negative (digits_value 10 ds) (digits_value 10 (without_end_zeros ds)) (length ds - length (without_end_zeros ds)) places d (value_kept 0 ds) (kept_last ds all) at_value,
+          omega (arith, value.1, value_step-digits negative _ _ d at_value),
+        )
 
 pub lowest_of-every : (negative : Bool) (ds : List ℕ) (places : ℤ) (d : Decimal) → AllDigits 10 ds → IsLowest negative (digits_value 10 ds) places d → d.digits < 10 ^ 38
     → lowest_of negative ds places ≡ Some d
 unfolding lowest_of
 lowest_of-every negative ds places d all is few =
     lowest_every negative (digits_value 10 ds) (digits_value 10 (without_end_zeros ds)) (length ds - length (without_end_zeros ds)) places d (value_kept 0 ds) (kept_last ds all) is few
+
+-- ---- each number of few digits has its lowest form
+
+least_step : (negative : Bool) (p : ℤ) (n : ℕ) → (d : Decimal) × (value_step negative p (Some n) ≡ Some d)
+least_step negative p zero = (record { negative = false; digits = 0; places = pos 0 }, refl)
+least_step negative p (suc n) = (record { negative = negative; digits = suc n; places = p }, refl)
+
+pub lowest_of-found : (negative : Bool) (ds : List ℕ) (places : ℤ) → digits_value 10 ds < 10 ^ 38 → (d : Decimal) × (lowest_of negative ds places ≡ Some d)
+unfolding lowest_of
+lowest_of-found negative ds places few =
+    let kept = digits_value 10 (without_end_zeros ds) in
+    let zeros = length ds - length (without_end_zeros ds) in
+    let least = ten_above zeros in
+    let whole : kept * 1 ≤ kept * 10 ^ zeros = mul-le-mul_left kept least in
+    let below : kept < 10 ^ 38 = omega (arith, value_kept 0 ds) in
+    let found = least_step negative (places -ℤ pos zeros) kept in
+    (found.0, rw (read_value-few kept below) found.1)

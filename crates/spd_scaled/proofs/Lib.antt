@@ -4,4 +4,6 @@ mod DecimalUnits
 mod DecimalParts
 mod DecimalValue
 mod DecimalText
+mod ReadBack
+mod DecimalRows
 mod Rows

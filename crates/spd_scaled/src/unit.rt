@@ -1,7 +1,10 @@
 //! Decimals as whole numbers of a unit.
 
-ghost use Rattle.std.specs.Prelude.{◌≡◌, ℕ, ◌*◌, ◌<◌, ◌≤◌, ◌^◌, IfOk};
-ghost use Rattle.spd_scaled.specs.Decimal.{IsScaled, AreUnits, with_sign};
+ghost use Rattle.std.specs.Prelude.{◌≡◌, ℕ, ◌*◌, ◌<◌, ◌≤◌, ◌^◌, ◌⊎◌, ℤ, pos, IfOk};
+ghost use Rattle.spd_scaled.specs.declared.decimal.Decimal.{Decimal as DecimalValue};
+ghost use Rattle.spd_scaled.specs.Scaled.{IsWithin};
+ghost use Rattle.spd_scaled.specs.Units.{units_text};
+ghost use Rattle.spd_scaled.specs.Decimal.{Writes, IsScaled, AreUnits, with_sign};
 ghost use Rattle.spd_scaled.specs.DecimalReading.{limited, divided_by, units_from, signed_step, scaled_of};
 
 use crate::decimal::{Decimal, Scale};
@@ -100,3 +103,10 @@ pub fn scale(d: &Decimal, places: u8) -> Result<i128, Scale>
 {
     scaled(d, places)
 }
+
+/// What `put_units` writes is read back: `read_decimal` gives a decimal that `scale` turns into the
+/// same number, where its magnitude is at most 10^30.
+pub fn law_read_back()
+    ensures { (places : ℕ) (n : ℤ) → (places ≡ 9) ⊎ (places ≡ 12) → IsWithin (pos (10 ^ 30)) n
+        → (d : DecimalValue) × Writes (units_text places n) d × IsScaled places d (Ok n) }
+{}

@@ -1,4 +1,4 @@
-use Rattle.std.proofs.Common.{◌≡◌, ◌||◌, ◌∙◌, true, false, eqb, get_or, refl, sym, arith}
+use Rattle.std.proofs.Common.{◌≡◌, ◌||◌, true, false, eqb, get_or, refl, sym, arith}
 use Rattle.std.proofs.lemmas.Bool.Decides.{nat_tests}
 use Rattle.spd_scaled.proofs.DecimalParts.{exponent_at-some, exponent_at-none}
 use Rattle.spd_scaled.proofs.decimal.exponent.Goals as goal
@@ -15,8 +15,8 @@ returns-then-letter-ne69-clause-value c =
 pub returns-clause-value : goal.returns-clause-value
 returns-clause-value c =
     let is : (eqb (get_or c.args.text.now 0 0) 101 || eqb (get_or c.args.text.now 0 0) 69) ≡ true =
-        elim c.else-letter-ne101.branch [
-          else-letter-ne101-via-then-letter-ne101+else-letter-ne69 w ↦ grind (arith, nat_tests)
-        | else-letter-ne101-via-else-letter-ne101 w ↦ grind (arith, nat_tests)
-        ] in
+    elim c.else-letter-ne101.branch [
+      | else-letter-ne101-via-then-letter-ne101+else-letter-ne69 w ↦ grind (arith, nat_tests)
+      | else-letter-ne101-via-else-letter-ne101 w ↦ grind (arith, nat_tests)
+    ] in
     rw (exponent_at-some c.args.text.now c.in-len1-up.len_at_least, is) c.exponent_value.ensures.value

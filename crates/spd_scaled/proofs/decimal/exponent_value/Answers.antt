@@ -1,6 +1,5 @@
-use Rattle.std.proofs.Common.{◌≡◌, ◌∙◌, true, sym, ap, arith}
+use Rattle.std.proofs.Common.{◌∙◌, sym, arith}
 use Rattle.std.proofs.lemmas.Int.{ints}
-use Rattle.spd_scaled.specs.DecimalReading.{are_exponent_digits}
 use Rattle.spd_scaled.proofs.DecimalParts.{exponent_small, read_value-None, read_value-Some}
 use Rattle.spd_scaled.proofs.decimal.exponent_value.Goals as goal
 

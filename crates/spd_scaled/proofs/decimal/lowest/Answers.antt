@@ -1,7 +1,6 @@
-use Rattle.std.proofs.Common.{◌≡◌, ◌++◌, ◌∙◌, ◌-◌, List, ℕ, ℤ, pos, ◌-ℤ◌, Option, Some, None, length, length-append, subst, sym, ap, arith}
+use Rattle.std.proofs.Common.{◌≡◌, ◌++◌, ◌∙◌, ◌-◌, List, ℕ, ℤ, pos, ◌-ℤ◌, Option, Some, length, length-append, subst, sym, ap, arith}
 use Rattle.std.proofs.lemmas.Int.{ints}
 use Rattle.std.specs.Str.Parse.{AllDigits}
-use Rattle.spd_scaled.specs.declared.decimal.Decimal.{Decimal}
 use Rattle.spd_scaled.specs.DecimalReading.{value_step, without_end_zeros}
 use Rattle.spd_scaled.proofs.DecimalParts.{AllDigits-append, AllDigits-front, AllDigits-back, AllDigits-without_end_zeros, lowest_of-parts, length-kept}
 use Rattle.spd_scaled.proofs.decimal.lowest.Goals as goal

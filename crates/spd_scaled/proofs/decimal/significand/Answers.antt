@@ -1,5 +1,5 @@
-use Rattle.std.proofs.Common.{◌≡◌, ◌++◌, ◌∙◌, ℕ, sym, ap, arith}
-use Rattle.std.specs.Str.Parse.{digits_value, digits_value_after}
+use Rattle.std.proofs.Common.{◌∙◌, ℕ, sym, ap, arith}
+use Rattle.std.specs.Str.Parse.{digits_value_after}
 use Rattle.spd_scaled.specs.DecimalReading.{read_value}
 use Rattle.spd_scaled.proofs.DecimalParts.{digits_value_after-append, digits_value_after-above, read_value-None, read_value-Some, read_value-many}
 use Rattle.spd_scaled.proofs.decimal.significand.Goals as goal

@@ -1,4 +1,4 @@
-use Rattle.std.proofs.Common.{◌≡◌, ◌++◌, ◌∙◌, List, [], ◌∷◌, ℕ, Bool, true, false, cond, eqb, length, append-nil, refl, sym, ap, arith}
+use Rattle.std.proofs.Common.{◌≡◌, ◌++◌, ◌∙◌, List, [], ◌∷◌, ℕ, true, false, eqb, length, append-nil, refl, sym, ap, arith}
 use Rattle.std.proofs.lemmas.Bool.Decides.{nat_tests}
 use Rattle.spd_scaled.specs.DecimalReading.{without_end_zeros}
 use Rattle.spd_scaled.proofs.DecimalParts.{without_end_zeros-append}

@@ -1,4 +1,4 @@
-use Rattle.std.proofs.Common.{◌≡◌, get_or, refl, lit<, arith}
+use Rattle.std.proofs.Common.{refl, lit<, arith}
 use Rattle.spd_scaled.proofs.DecimalParts.{sign_at-some, sign_at-other, first-none}
 use Rattle.spd_scaled.proofs.decimal.split_sign.Goals as goal
 

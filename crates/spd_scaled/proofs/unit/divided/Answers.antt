@@ -1,5 +1,4 @@
-use Rattle.std.proofs.Common.{◌≡◌, ◌^◌, ◌<◌, ◌≤◌, sym, arith, lit<, lit≤}
-use Rattle.std.proofs.Math.Nat.{pow-le-pow_right}
+use Rattle.std.proofs.Common.{sym, arith}
 use Rattle.spd_scaled.proofs.DecimalUnits.{ten_above, ten_up, divided_by-none}
 use Rattle.spd_scaled.proofs.unit.divided.Goals as goal
 

@@ -1,5 +1,4 @@
-use Rattle.std.proofs.Common.{◌≡◌, ◌^◌, ◌<◌, ◌≤◌, sym, arith}
-use Rattle.std.proofs.Math.Nat.{lt-div-mul-add, mul-le-mul_right}
+use Rattle.std.proofs.Common.{◌^◌, sym, arith}
 use Rattle.spd_scaled.proofs.DecimalUnits.{ten_above, ten_up, limited-product, limited-above, passes_quotient}
 use Rattle.spd_scaled.proofs.unit.multiplied.Goals as goal
 

@@ -1,5 +1,4 @@
-use Rattle.std.proofs.Common.{◌≡◌, refl, subst, sym}
-use Rattle.spd_cons_core.specs.declared.key.Entry.{Entry}
+use Rattle.std.proofs.Common.{refl, subst}
 use Rattle.spd_cons.specs.Shown.{shown, view_of}
 use Rattle.spd_cons.specs.Values.{SeatValue, TableValue, IsSeatOf, Finds, Lacks}
 use Rattle.spd_cons.proofs.Facts.{rest_facts, seat_facts}

@@ -1,4 +1,4 @@
-use Rattle.std.proofs.Common.{◌≡◌, ◌∙◌, sym, ap, subst, refl, [], ◌||◌, ◌+◌}
+use Rattle.std.proofs.Common.{◌≡◌, ◌∙◌, ap, subst, refl, ◌||◌, ◌+◌}
 use Rattle.spd_cons.specs.declared.view.View.{View}
 use Rattle.spd_cons.specs.declared.seat.ActiveSeat.{ActiveSeat}
 use Rattle.spd_cons.specs.Told.{Mine, Learns, joined_view}
@@ -7,7 +7,7 @@ use Rattle.spd_cons.specs.Values.{SeatValue, TableValue, IsSeatOf, Joins}
 use Rattle.spd_cons.proofs.Facts.{join_result, join_rest, rest_facts, seat_facts}
 use Rattle.spd_cons.proofs.cons.Cons.join.Goals as goal
 
-learned : (c : goal.After-seat-3-1) → Learns (joined_view (view_of c.seat.inside.active) (view_of c.other.inside.active)) c.look.new.token.me.0
+learned : (c : goal.After-seat-5-1) → Learns (joined_view (view_of c.seat.inside.active) (view_of c.other.inside.active)) c.look.new.token.me.0
 learned c = subst (λ (m : Mine). Learns m.0 c.look.new.token.me.0) c.join_token.ensures.views c.look.ensures.tells.0
 
 pub returns-clause-joins : goal.returns-clause-joins
@@ -32,6 +32,6 @@ returns-clause-after c = seat_facts c.look.new.token.me.0 _ c.look.ensures.tells
 
 pub invariant_of-seat : goal.invariant_of-seat
 invariant_of-seat c =
-    let new : ActiveSeat = record { token = c.look.new.token; spare = c.or-seat-inside.result; ended = c.seat.inside.active.ended || c.other.inside.active.ended; published = c.seat.inside.active.published + c.other.inside.active.published } in
-    let r = join_rest c.seat.inside.active c.other.inside.active new c.seat.invariant.active c.other.invariant.active c.seat.invariant.rests (learned c) (c.look.ensures.tells.1 ∙ ap (λ (m : Mine). m.1) c.join_token.ensures.views) c.or-seat-inside.ensures refl refl in
+    let new : ActiveSeat = record { token = c.look.new.token; spare = c.or-seat-inside.result; ended = c.seat.inside.active.ended || c.other.inside.active.ended; published = c.seat.inside.active.published + c.other.inside.active.published; stands = c.seat.inside.active.stands + c.other.inside.active.stands; splits = c.seat.inside.active.splits + c.other.inside.active.splits } in
+    let r = join_rest c.seat.inside.active c.other.inside.active new c.seat.invariant.active c.other.invariant.active c.seat.invariant.rests (learned c) (c.look.ensures.tells.1 ∙ ap (λ (m : Mine). m.1) c.join_token.ensures.views) c.or-seat-inside.ensures refl refl refl refl in
     record { active = r.0; rests = r.1 }

@@ -1,6 +1,5 @@
 use Rattle.std.proofs.Common.{◌≡◌, ◌∙◌, length, sym, ap, subst}
 use Rattle.spd_cons_core.specs.Invariants.{shares}
-use Rattle.spd_cons.specs.declared.view.Size.{Size}
 use Rattle.spd_cons.specs.Values.{SeatValue, TableValue, IsPublishedCount}
 use Rattle.spd_cons.proofs.Facts.{published_count}
 use Rattle.spd_cons.proofs.cons.Cons.made.Goals as goal

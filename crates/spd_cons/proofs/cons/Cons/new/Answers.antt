@@ -1,4 +1,4 @@
-use Rattle.std.proofs.Common.{◌≡◌, ℕ, zero, suc, ◌+◌, ◌*◌, ◌^◌, ◌<◌, ◌≤◌, ◌∙◌, arith}
+use Rattle.std.proofs.Common.{ℕ, zero, suc, ◌*◌, ◌^◌, ◌<◌, ◌≤◌, ◌∙◌, arith}
 use Rattle.spd_cons_core.proofs.CallerLemmas.{power_between}
 use Rattle.spd_cons.proofs.cons.Cons.new.Goals as goal
 
@@ -13,8 +13,7 @@ open-requires-clause-bits c =
     let bound = c.ilog2.ensures.bound in
     let least = c.next_power_of_two-count.ensures.lower_bound in
     let limit = c.requires.limit_low in
-    let seats = c.requires.seats_low in
-    (
+    let seats = c.requires.seats_low in (
       c.from.ensures ∙ power_between c.next_power_of_two-count.result c.ilog2.result c.next_power_of_two-count.ensures.power (omega arith) (omega arith),
       some_bits c.ilog2.result c.next_power_of_two-count.result (omega arith) (omega arith),
       omega arith,

@@ -12,7 +12,7 @@ use Rattle.spd_cons.proofs.cons.Cons.read.Goals as goal
 pub read_words-requires-clause-below : goal.read_words-requires-clause-below
 read_words-requires-clause-below c =
     let size : (view_of c.seat.inside.active).size ≡ c.self.inside.words.size =
-        ap (λ (v : SeatValue). v.table.size) c.seat.view_is ∙ (ap (λ (t : TableValue). t.size) c.requires.own ∙ ap (λ (t : TableValue). t.size) (sym c.self.view_is)) in
+    ap (λ (v : SeatValue). v.table.size) c.seat.view_is ∙ (ap (λ (t : TableValue). t.size) c.requires.own ∙ ap (λ (t : TableValue). t.size) (sym c.self.view_is)) in
     subst (λ (z : Size). c.args.e.0 < z.limit + z.most) size
     (known_below _ _ c.seat.invariant.active.sees c.args.e (subst (λ (v : SeatValue). is_known v.mind.knows c.args.e ≡ true) (sym c.seat.view_is) c.requires.known))
 

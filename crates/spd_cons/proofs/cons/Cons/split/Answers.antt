@@ -1,4 +1,4 @@
-use Rattle.std.proofs.Common.{◌≡◌, ◌∙◌, sym, ap, subst, refl, [], length, true, ◌<◌}
+use Rattle.std.proofs.Common.{◌≡◌, ◌∙◌, sym, ap, subst, length, true, ◌<◌, ◌-◌}
 use Rattle.spd_cons_core.specs.Events.{can_split}
 use Rattle.spd_cons.specs.Values.{SeatValue}
 use Rattle.spd_cons.specs.declared.view.View.{View}
@@ -7,7 +7,7 @@ use Rattle.spd_cons.specs.Shown.{view_of}
 use Rattle.spd_cons.proofs.Facts.{sees_left, sees_right, can-split}
 use Rattle.spd_cons.proofs.cons.Cons.split.Goals as goal
 
-can : (c : goal.After-split_token-token) → can_split c.seat.inside.active.token.me.0.mind ≡ true
+can : (c : goal.After-seat-1) → can_split c.seat.inside.active.token.me.0.mind ≡ true
 can c = can-split c.seat.inside.active.token.me.0.mind c.seat.invariant.active.sees.live c.seat.invariant.rests (subst (λ (v : SeatValue). 0 < v.mind.splits) (sym c.seat.view_is) c.requires.splits)
 
 pub invariant_of-seat : goal.invariant_of-seat
@@ -23,6 +23,8 @@ invariant_of-seat c =
         spare = ap (λ (v : View). v.mind.spare) view ∙ h.spare;
         ended = ap (λ (v : View). v.mind.ended) view ∙ h.ended;
         published = h.published ∙ sym (ap (λ (v : View). length v.mind.published) view);
+        stands = ap (λ (v : View). v.mind.stands) view ∙ h.stands;
+        splits = ap (λ (v : View). v.mind.splits) view ∙ ap (λ n. n - 1) h.splits;
       };
       rests = ap (λ (v : View). v.mind.call) view ∙ c.seat.invariant.rests;
     }
@@ -40,6 +42,8 @@ invariant_of-result c =
         spare = ap (λ (v : View). v.mind.spare) view;
         ended = ap (λ (v : View). v.mind.ended) view;
         published = sym (ap (λ (v : View). length v.mind.published) view);
+        stands = ap (λ (v : View). v.mind.stands) view;
+        splits = ap (λ (v : View). v.mind.splits) view;
       };
       rests = ap (λ (v : View). v.mind.call) view;
     }

@@ -1,4 +1,4 @@
-use Rattle.std.proofs.Common.{rules, arith}
+use Rattle.std.proofs.Common.{arith}
 use Rattle.std.proofs.lemmas.Grind.{common_steps}
 use Rattle.spd_cons.proofs.Others.{opens}
 use Rattle.spd_cons.proofs.words.WordTable.open.Goals as goal
