@@ -1,20 +1,18 @@
 -- The expectation that sums out one variable after another: the rounded ones enclose the exact one, and the exact one is the sum
 -- over all next states. Here a chance may depend on the next values of the later variables too.
-use Rattle.std.proofs.Common.{◌≡◌, ℕ, zero, suc, ◌^◌, ◌<◌, ◌≤◌, List, [], ◌∷◌, length, slice_index, ℤ, pos, ◌*ℤ◌, ◌≤ℤ◌, ◌<ℤ◌, refl, ap, sym, ◌∙◌, subst, arith}
+use Rattle.std.proofs.Common.{◌≡◌, ℕ, zero, suc, ◌^◌, ◌<◌, ◌≤◌, List, [], ◌∷◌, length, drop, slice_index, ℤ, pos, ◌*ℤ◌, ◌≤ℤ◌, ◌<ℤ◌, refl, ap, sym, ◌∙◌, subst, arith}
 use Rattle.std.proofs.lemmas.Int.{ints}
 use Rattle.std.proofs.Math.Nat.{pow-suc}
 use Rattle.spd_scaled.specs.Scaled.{floor_div, ceil_div}
-use Rattle.spd_scaled.proofs.CallerLemmas.Ring.{ring, *ℤ_comm, *ℤ_assoc, *ℤ_swap, *ℤ-one, *ℤ_nonnegative, *ℤ_mono_right, ≤ℤ_trans}
+use Rattle.spd_scaled.proofs.CallerLemmas.Ring.{ring, *ℤ_comm, *ℤ_assoc, *ℤ_swap, one-*ℤ, *ℤ-one, *ℤ_nonnegative, *ℤ_mono_right, ≤ℤ_trans}
 use Rattle.spd_scaled.proofs.CallerLemmas.DivisionLaws.{floor_div_at_most, ceil_div_at_least}
 use Rattle.spd_model.specs.Numbers.{sum_below}
 use Rattle.spd_model.specs.States.{IsState, sum_over_states}
 use Rattle.spd_model.specs.Chances.{one}
 use Rattle.spd_model.specs.Backup.{expected_by}
-use Rattle.spd_bellman.proofs.Sums.{sum_below-cong, sum_below_mono, sum_below-*ℤ, sum_over_states-cong, sum_over_states_swap}
-
--- the chance of the value v of variable i, where the variables after i have the values `rest`
-abbrev pub Chance : Type 0
-Chance = ℕ → ℕ → List ℕ → ℤ
+use Rattle.spd_model.proofs.CallerLemmas.StateOrder.{IsState-drop, IsState-none}
+use Rattle.spd_model.proofs.CallerLemmas.Chances.{Chance, AreChances}
+use Rattle.spd_model.proofs.CallerLemmas.Sums.{sum_below-cong, sum_below_mono, sum_below-*ℤ, sum_over_states-cong, sum_over_states_swap}
 
 -- the expectation of w with no rounding, in parts of one to the power of the number of variables
 abbrev pub exact_by : (ℕ → ℕ) → Chance → (List ℕ → ℤ) → ℕ → List ℕ → ℤ
@@ -32,10 +30,6 @@ pub scale_by_nonnegative : (i : ℕ) → pos 0 ≤ℤ scale_by i
 scale_by_nonnegative i = omega (arith, ints)
 
 -- ---- the rounded expectations enclose the exact one
-
--- the chances of the first n variables are at least 0
-abbrev pub AreChances : (ℕ → ℕ) → Chance → ℕ → Type 0
-AreChances size chance n = (i v : ℕ) (rest : List ℕ) → i < n → v < size i → pos 0 ≤ℤ chance i v rest
 
 one_above : pos 0 <ℤ one
 one_above = record { lt = tt }
@@ -59,39 +53,41 @@ regrouped i x = sym (*ℤ_assoc (scale_by i) one x) ∙ ap (λ k. k *ℤ x) (sym
 into_sum : (k : ℤ) (n : ℕ) (p f : ℕ → ℤ) → k *ℤ sum_below n (λ v. p v *ℤ f v) ≡ sum_below n (λ v. p v *ℤ (k *ℤ f v))
 into_sum k n p f = sym (sum_below-*ℤ n k (λ v. p v *ℤ f v)) ∙ sum_below-cong n _ _ (λ v q. *ℤ_swap k (p v) (f v))
 
-module _ (size : ℕ → ℕ) (chance : Chance) (w : List ℕ → ℤ) (n : ℕ) (chances : AreChances size chance n) where
+module _ (sizes : List ℕ) (chance : Chance) (chances : AreChances sizes chance) (w : List ℕ → ℤ) where
   abbrev low : ℕ → List ℕ → ℤ
-  low = expected_by floor_div size chance w
+  low = expected_by floor_div (slice_index sizes) chance w
 
   abbrev high : ℕ → List ℕ → ℤ
-  high = expected_by ceil_div size chance w
+  high = expected_by ceil_div (slice_index sizes) chance w
 
   abbrev exact : ℕ → List ℕ → ℤ
-  exact = exact_by size chance w
+  exact = exact_by (slice_index sizes) chance w
 
-  pub encloses_below : (i : ℕ) (rest : List ℕ) → i ≤ n → (scale_by i *ℤ low i rest) ≤ℤ exact i rest
-  encloses_below zero rest h = one_times_below (w rest)
-  encloses_below (suc i) rest h =
+  pub encloses_below : (i : ℕ) (rest : List ℕ) → i ≤ length sizes → IsState (drop i sizes) rest → (scale_by i *ℤ low i rest) ≤ℤ exact i rest
+  encloses_below zero rest near is = one_times_below (w rest)
+  encloses_below (suc i) rest near is =
       let k = scale_by i in
-      let sum = sum_below (size i) (λ v. chance i v rest *ℤ low i (v ∷ rest)) in
+      let size = slice_index sizes i in
+      let sum = sum_below size (λ v. chance i v rest *ℤ low i (v ∷ rest)) in
       let rounded = *ℤ_mono_right k _ _ (scale_by_nonnegative i) (at_most sum) in
       let inner : (k *ℤ sum) ≤ℤ exact (suc i) rest =
-      subst (λ x. x ≤ℤ exact (suc i) rest) (sym (into_sum k (size i) (λ v. chance i v rest) (λ v. low i (v ∷ rest))))
-      (sum_below_mono (size i) _ _ (λ v p. *ℤ_mono_right (chance i v rest) _ _ (chances i v rest h p)
-      (encloses_below i (v ∷ rest) (omega arith)))) in
+      subst (λ x. x ≤ℤ exact (suc i) rest) (sym (into_sum k size (λ v. chance i v rest) (λ v. low i (v ∷ rest))))
+      (sum_below_mono size _ _ (λ v below. *ℤ_mono_right (chance i v rest) _ _ (chances.nonnegative i v rest near below is)
+      (encloses_below i (v ∷ rest) (omega arith) (IsState-drop sizes i v rest near below is)))) in
       subst (λ x. x ≤ℤ exact (suc i) rest) (regrouped i (floor_div sum one))
       (≤ℤ_trans _ (k *ℤ sum) _ rounded inner)
 
-  pub encloses_above : (i : ℕ) (rest : List ℕ) → i ≤ n → exact i rest ≤ℤ (scale_by i *ℤ high i rest)
-  encloses_above zero rest h = one_times_above (w rest)
-  encloses_above (suc i) rest h =
+  pub encloses_above : (i : ℕ) (rest : List ℕ) → i ≤ length sizes → IsState (drop i sizes) rest → exact i rest ≤ℤ (scale_by i *ℤ high i rest)
+  encloses_above zero rest near is = one_times_above (w rest)
+  encloses_above (suc i) rest near is =
       let k = scale_by i in
-      let sum = sum_below (size i) (λ v. chance i v rest *ℤ high i (v ∷ rest)) in
+      let size = slice_index sizes i in
+      let sum = sum_below size (λ v. chance i v rest *ℤ high i (v ∷ rest)) in
       let rounded = *ℤ_mono_right k _ _ (scale_by_nonnegative i) (at_least sum) in
       let inner : exact (suc i) rest ≤ℤ (k *ℤ sum) =
-      subst (λ x. exact (suc i) rest ≤ℤ x) (sym (into_sum k (size i) (λ v. chance i v rest) (λ v. high i (v ∷ rest))))
-      (sum_below_mono (size i) _ _ (λ v p. *ℤ_mono_right (chance i v rest) _ _ (chances i v rest h p)
-      (encloses_above i (v ∷ rest) (omega arith)))) in
+      subst (λ x. exact (suc i) rest ≤ℤ x) (sym (into_sum k size (λ v. chance i v rest) (λ v. high i (v ∷ rest))))
+      (sum_below_mono size _ _ (λ v below. *ℤ_mono_right (chance i v rest) _ _ (chances.nonnegative i v rest near below is)
+      (encloses_above i (v ∷ rest) (omega arith) (IsState-drop sizes i v rest near below is)))) in
       subst (λ x. exact (suc i) rest ≤ℤ x) (regrouped i (ceil_div sum one))
       (≤ℤ_trans _ (k *ℤ sum) _ inner rounded)
 
@@ -115,10 +111,7 @@ factors j c x = simp ring
 
 pub exact_by-sum : (sizes : List ℕ) (chance : Chance) (w : List ℕ → ℤ)
     → exact_by (slice_index sizes) chance w (length sizes) [] ≡ sum_over_states sizes (λ t. joint_by chance t *ℤ w t)
-exact_by-sum [] chance w = sym (*ℤ-one-left (w []))
-  where
-    *ℤ-one-left : (x : ℤ) → pos 1 *ℤ x ≡ x
-    *ℤ-one-left x = omega (arith, ints)
+exact_by-sum [] chance w = sym (one-*ℤ (w []))
 exact_by-sum (size ∷ sizes) chance w =
     let later : Chance = λ i. chance (suc i) in
     first_out (slice_index (size ∷ sizes)) chance w (length sizes) []
@@ -129,31 +122,34 @@ exact_by-sum (size ∷ sizes) chance w =
 
 -- ---- the chances of all next states
 
-pub joint_by_nonnegative : (sizes : List ℕ) (chance : Chance) → AreChances (slice_index sizes) chance (length sizes)
-    → (t : List ℕ) → IsState sizes t → pos 0 ≤ℤ joint_by chance t
-joint_by_nonnegative [] chance h [] is = record { le = tt }
-joint_by_nonnegative [] chance h (v ∷ t) is = absurd is
-joint_by_nonnegative (size ∷ sizes) chance h [] is = absurd is
-joint_by_nonnegative (size ∷ sizes) chance h (v ∷ t) is =
-    *ℤ_nonnegative _ _ (h 0 v t (omega arith) is.0)
-    (joint_by_nonnegative sizes (λ i. chance (suc i)) (λ i u rest near below. h (suc i) u rest (omega arith) below) t is.1)
+later_chances : (size : ℕ) (sizes : List ℕ) (chance : Chance) → AreChances (size ∷ sizes) chance → AreChances sizes (λ i. chance (suc i))
+later_chances size sizes chance chances = record {
+  nonnegative = λ i v rest near below is. chances.nonnegative (suc i) v rest (omega arith) below is;
+  whole = λ i rest near is. chances.whole (suc i) rest (omega arith) is;
+}
 
--- the exact expectation of 1 is one to the power of the number of variables, where each variable's chances sum to one
-pub exact_by-one : (size : ℕ → ℕ) (chance : Chance) (n : ℕ)
-    → ((i : ℕ) (rest : List ℕ) → i < n → sum_below (size i) (λ v. chance i v rest) ≡ one)
-    → (i : ℕ) (rest : List ℕ) → i ≤ n → exact_by size chance (λ t. pos 1) i rest ≡ scale_by i
-exact_by-one size chance n sums zero rest h = refl
-exact_by-one size chance n sums (suc i) rest h =
-    sum_below-cong (size i) _ _ (λ v p. ap (λ x. chance i v rest *ℤ x) (exact_by-one size chance n sums i (v ∷ rest) (omega arith))
+pub joint_by_nonnegative : (sizes : List ℕ) (chance : Chance) → AreChances sizes chance → (t : List ℕ) → IsState sizes t → pos 0 ≤ℤ joint_by chance t
+joint_by_nonnegative [] chance chances [] is = record { le = tt }
+joint_by_nonnegative [] chance chances (v ∷ t) is = absurd is
+joint_by_nonnegative (size ∷ sizes) chance chances [] is = absurd is
+joint_by_nonnegative (size ∷ sizes) chance chances (v ∷ t) is =
+    *ℤ_nonnegative _ _ (chances.nonnegative 0 v t (omega arith) is.0 is.1)
+    (joint_by_nonnegative sizes (λ i. chance (suc i)) (later_chances size sizes chance chances) t is.1)
+
+-- the exact expectation of 1 is one to the power of the number of variables
+exact_by-one : (sizes : List ℕ) (chance : Chance) → AreChances sizes chance
+    → (i : ℕ) (rest : List ℕ) → i ≤ length sizes → IsState (drop i sizes) rest → exact_by (slice_index sizes) chance (λ t. pos 1) i rest ≡ scale_by i
+exact_by-one sizes chance chances zero rest near is = refl
+exact_by-one sizes chance chances (suc i) rest near is =
+    sum_below-cong (slice_index sizes i) _ _ (λ v below. ap (λ x. chance i v rest *ℤ x)
+    (exact_by-one sizes chance chances i (v ∷ rest) (omega arith) (IsState-drop sizes i v rest near below is))
     ∙ *ℤ_comm (chance i v rest) (scale_by i))
-    ∙ sum_below-*ℤ (size i) (scale_by i) (λ v. chance i v rest)
-    ∙ ap (λ x. scale_by i *ℤ x) (sums i rest h)
+    ∙ sum_below-*ℤ (slice_index sizes i) (scale_by i) (λ v. chance i v rest)
+    ∙ ap (λ x. scale_by i *ℤ x) (chances.whole i rest near is)
     ∙ sym (scale_by-suc i)
 
-pub joint_by-sum : (sizes : List ℕ) (chance : Chance)
-    → ((i : ℕ) (rest : List ℕ) → i < length sizes → sum_below (slice_index sizes i) (λ v. chance i v rest) ≡ one)
-    → sum_over_states sizes (joint_by chance) ≡ scale_by (length sizes)
-joint_by-sum sizes chance sums =
+pub joint_by-sum : (sizes : List ℕ) (chance : Chance) → AreChances sizes chance → sum_over_states sizes (joint_by chance) ≡ scale_by (length sizes)
+joint_by-sum sizes chance chances =
     sum_over_states-cong sizes _ _ (λ t is. sym (*ℤ-one (joint_by chance t)))
     ∙ sym (exact_by-sum sizes chance (λ t. pos 1))
-    ∙ exact_by-one (slice_index sizes) chance (length sizes) sums (length sizes) [] (omega arith)
+    ∙ exact_by-one sizes chance chances (length sizes) [] (omega arith) (IsState-none sizes (length sizes) (omega arith))

@@ -1,7 +1,6 @@
-pub mod Sums
-pub mod Expectations
-pub mod Returns
-pub mod Residual
-pub mod Policies
-pub mod Bounds
+mod Expectations
+mod Returns
+mod Policies
+mod Bounds
+mod StopLaws
 mod Rows

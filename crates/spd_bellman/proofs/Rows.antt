@@ -1,5 +1,5 @@
 -- The definitions, computed on small models by hand.
-use Rattle.std.proofs.Common.{◌≡◌, ℕ, ◌*◌, ◌^◌, true, false, List, [], ◌∷◌, ℤ, pos, ◌-ℤ◌, ◌*ℤ◌, neg_ℤ, codes, map, refl, if◌then◌else◌, ◌==◌, slice_index, arith}
+use Rattle.std.proofs.Common.{◌≡◌, ℕ, ◌*◌, ◌^◌, true, false, List, [], ◌∷◌, ℤ, pos, ◌-ℤ◌, ◌*ℤ◌, neg_ℤ, codes, map, refl, if◌then◌else◌, ◌==◌, slice_index, None, arith}
 use Rattle.spd_model.specs.declared.tree.Tree.{Tree, Leaf, Branch}
 use Rattle.spd_model.specs.declared.tree.Tree.TheBlock.{shape-the_row-Tree-0, hidden-the_row-Tree-0}
 use denote.Hole.Carrier
@@ -10,7 +10,7 @@ use Rattle.spd_model.specs.States.{sizes, states, at, sum_over_states}
 use Rattle.spd_model.specs.Chances.{joint, scale_of}
 use Rattle.spd_model.specs.Backup.{low_of, high_of, policy_of}
 use Rattle.spd_model.specs.Turns.{turn, residual_of}
-use Rattle.spd_bellman.specs.Courses.{Course, stop, act, exact_return, return_of_course, return_of_policy}
+use Rattle.spd_bellman.specs.Courses.{Course, stop, act, always, exact_return, return_of_course, return_of_policy}
 
 abbrev leaf : ℕ → Tree
 leaf n = Leaf (pos n)
@@ -41,6 +41,7 @@ keeping = record {
   reward = by_present 0 (leaf (10 ^ 12)) (leaf 0) ∷ [];
   discount = 500000;
   tolerance = pos 100000000;
+  horizon = None;
 }
 
 -- the value after two turns, at yes and at no
@@ -59,7 +60,7 @@ unfolding shape-the_row-Tree-0 hidden-the_row-Tree-0 denote.Hole.Carrier.hidden
 residual-keeping = refl
 
 -- its return, and the value in the same parts
-return-keeping : return_of_course keeping second stays (0 ∷ []) ≡ pos (1875 * 10 ^ 24)
+return-keeping : return_of_course keeping (always (joint keeping)) second stays (0 ∷ []) ≡ pos (1875 * 10 ^ 24)
 unfolding shape-the_row-Tree-0 hidden-the_row-Tree-0 denote.Hole.Carrier.hidden stays
 return-keeping = refl
 
@@ -68,7 +69,7 @@ unfolding shape-the_row-Tree-0 hidden-the_row-Tree-0 denote.Hole.Carrier.hidden
 value-keeping = refl
 
 -- the two sides of the bound: the gain of 0.125 times one minus the discount, and the residual
-gain-keeping : pos 500000 *ℤ (return_of_course keeping second stays (0 ∷ []) -ℤ pos (scale_of keeping ^ 1) *ℤ second (0 ∷ []))
+gain-keeping : pos 500000 *ℤ (return_of_course keeping (always (joint keeping)) second stays (0 ∷ []) -ℤ pos (scale_of keeping ^ 1) *ℤ second (0 ∷ []))
     ≡ pos (625 * 10 ^ 29)
 unfolding shape-the_row-Tree-0 hidden-the_row-Tree-0 denote.Hole.Carrier.hidden stays
 gain-keeping = refl
@@ -78,7 +79,7 @@ unfolding shape-the_row-Tree-0 hidden-the_row-Tree-0 denote.Hole.Carrier.hidden
 error-keeping = refl
 
 -- the policy stays too, so its return is the same
-policy-keeping : return_of_policy keeping second (policy_of keeping second) 1 (0 ∷ []) ≡ pos (1875 * 10 ^ 24)
+policy-keeping : return_of_policy keeping (always (joint keeping)) second (always (policy_of keeping second)) 1 (0 ∷ []) ≡ pos (1875 * 10 ^ 24)
 unfolding shape-the_row-Tree-0 hidden-the_row-Tree-0 denote.Hole.Carrier.hidden
 policy-keeping = refl
 
@@ -98,6 +99,7 @@ mixing = record {
   reward = Branch 0 false (leaf (10 ^ 12) ∷ leaf 0 ∷ leaf 0 ∷ []) ∷ [];
   discount = 500000;
   tolerance = pos 100000000;
+  horizon = None;
 }
 
 abbrev first : List ℕ → ℤ
@@ -111,7 +113,7 @@ bounds-mixing = (refl, refl)
 scale-mixing : scale_of mixing ≡ 10 ^ 18
 scale-mixing = refl
 
-return-mixing : exact_return mixing (scale_of mixing) first mix (0 ∷ []) ≡ pos (12499999996665 * 10 ^ 14)
+return-mixing : exact_return mixing (joint mixing) (scale_of mixing) first mix (0 ∷ []) ≡ pos (12499999996665 * 10 ^ 14)
 unfolding shape-the_row-Tree-0 hidden-the_row-Tree-0 denote.Hole.Carrier.hidden
 return-mixing = refl
 
@@ -136,6 +138,7 @@ drifting = record {
   reward = leaf 0 ∷ [];
   discount = 500000;
   tolerance = pos 100000000;
+  horizon = None;
 }
 
 -- the four joint probabilities from yes and no, and their sum, in parts of 10^24
@@ -152,6 +155,25 @@ joint-drifting-again = refl
 sum-drifting : sum_over_states (sizes drifting) (joint drifting drift (0 ∷ 0 ∷ [])) ≡ pos (10 ^ 24)
 unfolding shape-the_row-Tree-0 hidden-the_row-Tree-0 denote.Hole.Carrier.hidden
 sum-drifting = refl
+
+-- ---- x is next what y is next, and y stays: an arc between next values
+
+abbrev linked_x : Tree
+linked_x = Branch 1 true (chances 0 (10 ^ 12) 0 ∷ chances 0 0 (10 ^ 12) ∷ [])
+
+abbrev kept_y : Tree
+kept_y = by_present 1 (chances 1 (10 ^ 12) 0) (chances 1 0 (10 ^ 12))
+
+abbrev link : Action
+link = record { name = codes "link"; tables = linked_x ∷ kept_y ∷ []; cost = [] }
+
+abbrev linking : Process
+linking = record drifting { actions = link ∷ [] }
+
+-- from no and yes the next state is yes and yes, and no other: the arc rules out that x and y differ
+joint-linking : map (joint linking link (1 ∷ 0 ∷ [])) (states (sizes linking)) ≡ pos (10 ^ 24) ∷ pos 0 ∷ pos 0 ∷ pos 0 ∷ []
+unfolding shape-the_row-Tree-0 hidden-the_row-Tree-0 denote.Hole.Carrier.hidden
+joint-linking = refl
 
 -- ---- a coin: `flip` throws it, `yes` and `no` keep it and win 1 where they name it; discount 0.5
 
@@ -172,6 +194,7 @@ guessing = record {
   reward = leaf 0 ∷ [];
   discount = 500000;
   tolerance = pos 100000000;
+  horizon = None;
 }
 
 abbrev nothing : List ℕ → ℤ
@@ -187,7 +210,15 @@ blind : Course guessing 2
 blind = act flip (0, omega arith, refl) (λ t. act yes (1, omega arith, refl) (λ u. stop))
 
 -- they return 0.5 and 0.25, in parts of 10^36 to the unit
-return-guessing : (return_of_course guessing nothing seeing (0 ∷ []) ≡ pos (50 * 10 ^ 43))
-    × (return_of_course guessing nothing blind (0 ∷ []) ≡ pos (25 * 10 ^ 43))
+return-guessing : (return_of_course guessing (always (joint guessing)) nothing seeing (0 ∷ []) ≡ pos (50 * 10 ^ 43))
+    × (return_of_course guessing (always (joint guessing)) nothing blind (0 ∷ []) ≡ pos (25 * 10 ^ 43))
 unfolding shape-the_row-Tree-0 hidden-the_row-Tree-0 denote.Hole.Carrier.hidden seeing blind
 return-guessing = (refl, refl)
+
+-- a policy for each number of steps left may do as the first of them: flip with two left, and name what is seen with one left
+abbrev then_name : ℕ → List ℕ → ℕ
+then_name left s = if left == 2 then 0 else (if slice_index s 0 == 0 then 1 else 2)
+
+policy-guessing : return_of_policy guessing (always (joint guessing)) nothing then_name 2 (0 ∷ []) ≡ pos (50 * 10 ^ 43)
+unfolding shape-the_row-Tree-0 hidden-the_row-Tree-0 denote.Hole.Carrier.hidden
+policy-guessing = refl

@@ -1,4 +1,5 @@
--- What callers' proofs cite of the definitions: lists and sums, the order of the states, tables, trees, what is first, validity.
+-- What callers' proofs cite of the definitions: lists and sums, the order of the states, tables, trees, what is first, validity,
+-- chances, bounded values, and the residual.
 pub mod Lists
 pub mod Sums
 pub mod Finds
@@ -7,3 +8,6 @@ pub mod StateOrder
 pub mod Trees
 pub mod TreeValues
 pub mod Validity
+pub mod Chances
+pub mod Bounded
+pub mod Gaps

@@ -6,7 +6,7 @@ use Rattle.std.proofs.lemmas.Grind.{flat_map-append}
 use Rattle.std.proofs.lemmas.List.{get_or-map, get_or_append_left, get_or-append-add}
 use Rattle.std.proofs.lemmas.List.Elements.{All-head, All-tail, All-map, All-weaker, All-from_get_or}
 use Rattle.std.proofs.lemmas.Option.{slice_get-get_or, slice_get_within, slice_get_past, get_or_from_slice_get}
-use Rattle.std.proofs.Math.ListN.{length-map}
+use Rattle.std.proofs.Math.ListN.{length-map, drop_of_length-le}
 use Rattle.std.proofs.Math.Nat.{mul-le-mul_right, div-add-mod', mod-lt}
 use Rattle.spd_model.specs.declared.process.Var.{Var}
 use Rattle.spd_model.specs.Process.{Process}
@@ -196,6 +196,10 @@ pub IsState-drop : (sizes : List ℕ) (i v : ℕ) (rest : List ℕ) → i < leng
 IsState-drop [] i v rest near below is = absurd (omega arith)
 IsState-drop (size ∷ sizes) zero v rest near below is = (below, is)
 IsState-drop (size ∷ sizes) (suc i) v rest near below is = IsState-drop sizes i v rest (omega arith) below is
+
+-- no values are left behind the last variable
+pub IsState-none : (sizes : List ℕ) (n : ℕ) → length sizes ≤ n → IsState (drop n sizes) []
+IsState-none sizes n past = subst (λ l. IsState l []) (sym (drop_of_length-le sizes past)) tt
 
 -- a state's own last values
 pub IsState-own : (sizes : List ℕ) (i : ℕ) (s : List ℕ) → IsState sizes s → IsState (drop i sizes) (drop i s)

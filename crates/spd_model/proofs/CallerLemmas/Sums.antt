@@ -1,8 +1,11 @@
--- Sums over the numbers below a bound, and over all states.
-use Rattle.std.proofs.Common.{◌≡◌, ℕ, zero, suc, ◌<◌, List, [], ◌∷◌, ℤ, pos, ◌+ℤ◌, ◌*ℤ◌, ◌≤ℤ◌, refl, ap, sym, ◌∙◌, arith}
+-- Sums of lists, over the numbers below a bound, and over all states.
+use Rattle.std.proofs.Common.{◌≡◌, ℕ, zero, suc, ◌+◌, ◌<◌, ◌≤◌, ◌⊎◌, inl, inr, List, [], ◌∷◌, ◌++◌, length, map, take, get_or, ℤ, pos, ◌+ℤ◌, ◌*ℤ◌, ◌≤ℤ◌, add-one, refl, ap, sym, ◌∙◌, arith}
 use Rattle.std.proofs.lemmas.Int.{ints}
-use Rattle.spd_scaled.proofs.CallerLemmas.Ring.{ring, *ℤ-zero, *ℤ-+ℤ, *ℤ_swap}
-use Rattle.spd_model.specs.Numbers.{sum_below}
+use Rattle.std.proofs.lemmas.List.{take_more, map_push}
+use Rattle.spd_scaled.specs.Scaled.{IsWithin}
+use Rattle.spd_scaled.proofs.CallerLemmas.Magnitude.{IsWithin-weighted_more}
+use Rattle.spd_scaled.proofs.CallerLemmas.Ring.{ring, zero-*ℤ, *ℤ-zero, *ℤ-+ℤ, *ℤ_swap}
+use Rattle.spd_model.specs.Numbers.{sum_below, total}
 use Rattle.spd_model.specs.States.{IsState, sum_over_states}
 
 +ℤ_mono : (a b c d : ℤ) → a ≤ℤ b → c ≤ℤ d → (a +ℤ c) ≤ℤ (b +ℤ d)
@@ -44,6 +47,46 @@ pub sum_below_swap : (m n : ℕ) (f : ℕ → ℕ → ℤ)
 sum_below_swap zero n f = sym (sum_below-zero n)
 sum_below_swap (suc m) n f =
     ap (λ x. x +ℤ sum_below n (f m)) (sum_below_swap m n f) ∙ sym (sum_below-+ℤ n (λ v. sum_below m (λ u. f u v)) (f m))
+
+split_last : (m n : ℕ) → m ≤ suc n → (m ≤ n) ⊎ (m ≡ suc n)
+split_last m n h = grind arith
+
+grown : (x y z : ℤ) → x ≤ℤ y → pos 0 ≤ℤ z → x ≤ℤ (y +ℤ z)
+grown x y z h k = omega (arith, ints)
+
+same_≤ℤ : (x y : ℤ) → x ≡ y → x ≤ℤ y
+same_≤ℤ x y h = omega (arith, ints)
+
+-- a sum of numbers of at least 0 doesn't fall
+pub sum_below_grows : (c : ℕ → ℤ) (m n : ℕ) → ((v : ℕ) → v < n → pos 0 ≤ℤ c v) → m ≤ n → sum_below m c ≤ℤ sum_below n c
+sum_below_grows c m zero h p = let e : m ≡ 0 = omega arith in same_≤ℤ _ _ (ap (λ (k : ℕ). sum_below k c) e)
+sum_below_grows c m (suc n) h p =
+    elim (split_last m n p) [
+      | inl q ↦ grown (sum_below m c) (sum_below n c) (c n) (sum_below_grows c m n (λ v l. h v (omega arith)) q) (h n (omega arith))
+      | inr e ↦ same_≤ℤ _ _ (ap (λ (k : ℕ). sum_below k c) e)
+    ]
+
+-- a weighted sum of values within b is within the sum of the weights times b
+pub sum_below_within : (c w : ℕ → ℤ) (b : ℤ) (n : ℕ) → ((v : ℕ) → v < n → pos 0 ≤ℤ c v) → ((v : ℕ) → v < n → IsWithin b (w v))
+    → IsWithin (sum_below n c *ℤ b) (sum_below n (λ v. c v *ℤ w v))
+sum_below_within c w b zero h k = record { low = omega (arith, ints, zero-*ℤ b); high = omega (arith, ints, zero-*ℤ b) }
+sum_below_within c w b (suc n) h k =
+    IsWithin-weighted_more (sum_below n (λ v. c v *ℤ w v)) (sum_below n c) (c n) (w n) b
+    (sum_below_within c w b n (λ v l. h v (omega arith)) (λ v l. k v (omega arith))) (h n (omega arith)) (k n (omega arith))
+
+total-push : (xs : List ℤ) (y : ℤ) → total (xs ++ y ∷ []) ≡ total xs +ℤ y
+total-push [] y = omega (arith, ints)
+total-push (x ∷ xs) y = ap (λ t. x +ℤ t) (total-push xs y) ∙ omega (arith, ints)
+
+-- one number more
+pub sum_below_more : (f : ℕ → ℤ) (n : ℕ) (sum x : ℤ) → sum ≡ sum_below n f → x ≡ f n → sum +ℤ x ≡ sum_below (n + 1) f
+sum_below_more f n sum x is_sum is_x = rw add-one (λ i. is_sum i +ℤ is_x i)
+
+pub total_more : {X : Type 0} (f : X → ℤ) (xs : List X) (i : ℕ) (d : X) (sum x : ℤ) → i < length xs → sum ≡ total (map f (take i xs)) → x ≡ f (get_or xs i d)
+    → sum +ℤ x ≡ total (map f (take (i + 1) xs))
+total_more f xs i d sum x near is_sum is_x =
+    (λ j. is_sum j +ℤ is_x j) ∙ sym (total-push (map f (take i xs)) (f (get_or xs i d)))
+    ∙ ap total (sym (ap (map f) (take_more xs i d near) ∙ map_push f (take i xs) (get_or xs i d)))
 
 -- ---- sums over all states
 
