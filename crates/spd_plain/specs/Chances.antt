@@ -19,7 +19,7 @@ abbrev pub values_of : Process → Action → List ℕ → ℕ → List ℤ
 values_of m a s i = map (λ v. chance_of m a s i (v ∷ slice_index_or (states (sizes_after m i)) 0 [])) (numbers_below (slice_index (sizes m) i))
 
 -- the probabilities for each state of the variables from i on, in order
-pub record AreChances (m : Process) (a : Action) (s : List ℕ) (i : ℕ) (chances : List ℤ) : Type 0 where
+pub record TellsChances (m : Process) (a : Action) (s : List ℕ) (i : ℕ) (chances : List ℤ) : Type 0 where
   pub count : length chances ≡ slice_index (sizes m) i * state_count (sizes_after m i)
   pub each : (k : ℕ) → k < slice_index (sizes m) i * state_count (sizes_after m i)
       → slice_index_or chances k (pos 0) ≡ chance_of m a s i (slice_index_or (states (drop i (sizes m))) k [])

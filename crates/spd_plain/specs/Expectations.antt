@@ -1,12 +1,11 @@
 -- Tables of expectations, from which one variable after another is summed out.
 use Rattle.std.specs.Prelude.{ℕ, ◌+◌, ◌*◌, ◌≡◌, ◌<◌, List, length, ℤ, pos, ◌*ℤ◌, ◌≤ℤ◌, slice_index_or}
-use Rattle.spd_scaled.specs.Scaled.{IsWithin, floor_div, ceil_div}
+use Rattle.spd_scaled.specs.Scaled.{floor_div, ceil_div}
 use Rattle.spd_model.specs.declared.Side.{Side}
 use Rattle.spd_model.specs.declared.Side.TheVariants.{Above, Below}
 use Rattle.spd_model.specs.Numbers.{sum_below}
 use Rattle.spd_model.specs.Chances.{one}
 use Rattle.spd_model.specs.Backup.{Rounding}
-use Rattle.spd_model.specs.Turns.{value_limit}
 
 -- how a bound on a side is rounded
 abbrev pub rounding_of : Side → Rounding
@@ -26,7 +25,3 @@ pub record AreWeights (size after : ℕ) (chances : List ℤ) : Type 0 where
   pub count : length chances ≡ size * after
   pub nonnegative : (v k : ℕ) → v < size → k < after → pos 0 ≤ℤ entry after chances v k
   pub whole : (k : ℕ) → k < after → sum_below size (λ v. entry after chances v k) ≡ one
-
--- none of these values passes the greatest magnitude of a value
-pub record AreBounded (values : List ℤ) : Type 0 where
-  pub each : (k : ℕ) → IsWithin (pos value_limit) (slice_index_or values k (pos 0))

@@ -13,12 +13,12 @@ use Rattle.spd_plain.specs.Chances.{values_of}
 use Rattle.spd_plain.specs.Reach.{reach_at}
 
 -- what is kept of the probabilities of the variable i after action a at s
-abbrev pub chances_of : Process → Action → List ℕ → ℕ → Chances
-chances_of m a s i = elim (reach_at m a i) [ Own ↦ Kept (values_of m a s i) | Later ↦ Read ]
+abbrev pub known_of : Process → Action → List ℕ → ℕ → Chances
+known_of m a s i = elim (reach_at m a i) [ Own ↦ Kept (values_of m a s i) | Later ↦ Read ]
 
 -- what an action comes to at s: its reward, and what is kept of the probabilities of each variable
 abbrev pub outlook_of : Process → List ℕ → Action → Outlook
-outlook_of m s a = record { reward = reward_of m a s; chances = map (chances_of m a s) (numbers_below (length m.vars)) }
+outlook_of m s a = record { reward = reward_of m a s; chances = map (known_of m a s) (numbers_below (length m.vars)) }
 
 -- what each action comes to at s
 abbrev pub outlooks_at : Process → List ℕ → List Outlook

@@ -1,12 +1,12 @@
 //! The probabilities of a variable's next values, read from the tables of a model.
 
-ghost use Rattle.std.specs.Prelude.{◌≡◌, ◌<◌, ◌≤◌, ◌*◌, ◌^◌, ◌∷◌, [], length, map, drop, pos, slice_index, slice_index_or, Contains, IfOk, OnOk};
+ghost use Rattle.std.specs.Prelude.{ℕ, ◌≡◌, ◌<◌, ◌≤◌, ◌+◌, ◌*◌, ◌^◌, ◌∷◌, [], length, map, drop, pos, slice_index, slice_index_or, Contains, IfOk, OnOk};
 ghost use Rattle.spd_scaled.specs.Scaled.{IsWithin};
 ghost use Rattle.spd_model.specs.Numbers.{numbers_below};
 ghost use Rattle.spd_model.specs.States.{sizes, states, state_count, IsState};
 ghost use Rattle.spd_model.specs.Chances.{sizes_after, sum_of};
 ghost use Rattle.spd_plain.specs.Space.{IsSpace, IsAxis, state_limit};
-ghost use Rattle.spd_plain.specs.Chances.{chance_of, values_of, IsKept, AreChances};
+ghost use Rattle.spd_plain.specs.Chances.{chance_of, values_of, IsKept, TellsChances};
 
 use crate::space::{Axis, Space};
 use spd_model::{Action, Model, State};
@@ -114,7 +114,7 @@ fn read_chances(
     requires state { IsState (sizes model.now) s.now }
     requires axis { IsAxis model.now axis.now }
     requires space { IsSpace model.now space.now }
-    ensures { OnOk result (AreChances model.now action.now s.now axis.now.var chances.new.items) }
+    ensures { OnOk result (TellsChances model.now action.now s.now axis.now.var chances.new.items) }
 {
     let states = space.states.as_slice();
     chances.clear();
@@ -139,7 +139,7 @@ pub(crate) fn tell_chances(
     requires axis { IsAxis model.now axis.now }
     requires space { IsSpace model.now space.now }
     requires known { IsKept model.now action.now s.now axis.now.var known.now }
-    ensures { OnOk result (AreChances model.now action.now s.now axis.now.var chances.new.items) }
+    ensures { OnOk result (TellsChances model.now action.now s.now axis.now.var chances.new.items) }
 {
     match known {
         Chances::Kept(kept) => spread(kept.as_slice(), axis.after, chances),

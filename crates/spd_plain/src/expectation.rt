@@ -1,6 +1,6 @@
 //! Rounded expectations: one variable after another is summed out of a table, which shrinks in place.
 
-ghost use Rattle.std.specs.Prelude.{◌≡◌, ◌<◌, ◌*◌, ◌+◌, ◌≤◌, length, pos, slice_index_or, Contains, OnOk};
+ghost use Rattle.std.specs.Prelude.{All, ℕ, ◌≡◌, ◌<◌, ◌*◌, ◌+◌, ◌≤◌, length, pos, slice_index_or, Contains, OnOk};
 ghost use Rattle.spd_scaled.specs.Scaled.{IsWithin, floor_div as floor_of, ceil_div as ceil_of};
 ghost use Rattle.spd_model.specs.States.{sizes, state_count, at, IsState};
 ghost use Rattle.spd_model.specs.Chances.{one, IsValid};
@@ -8,7 +8,7 @@ ghost use Rattle.spd_model.specs.Backup.{expectation};
 ghost use Rattle.spd_model.specs.Turns.{value_limit};
 ghost use Rattle.spd_plain.specs.Space.{IsSpace, state_limit};
 ghost use Rattle.spd_plain.specs.Outlooks.{outlook_of};
-ghost use Rattle.spd_plain.specs.Expectations.{rounding_of, weighted, AreWeights, AreBounded};
+ghost use Rattle.spd_plain.specs.Expectations.{rounding_of, weighted, AreWeights};
 
 use crate::chances::tell_chances;
 use crate::outlook::Outlook;
@@ -46,7 +46,7 @@ fn weighted_sum(chances: &[i128], values: &[i128], size: usize, after: usize, pl
     requires weights { AreWeights size after chances.now }
     requires count { length values.now ≡ size * after }
     requires few { size * after ≤ state_limit }
-    requires values { AreBounded values.now }
+    requires values { All (IsWithin (pos value_limit)) values.now }
     requires place { place < after }
     ensures sum { result ≡ weighted size after chances.now values.now place }
     ensures within { IsWithin (pos (value_limit * 1000000000000)) result }
@@ -77,10 +77,10 @@ fn sum_out(chances: &[i128], size: usize, after: usize, side: Side, values: &mut
     requires weights { AreWeights size after chances.now }
     requires count { length values.old.items ≡ size * after }
     requires few { size * after ≤ state_limit }
-    requires values { AreBounded values.old.items }
+    requires values { All (IsWithin (pos value_limit)) values.old.items }
     ensures count { length values.new.items ≡ after }
     ensures each { (k : ℕ) → k < after → slice_index_or values.new.items k (pos 0) ≡ rounding_of side (weighted size after chances.now values.old.items k) one }
-    ensures bounded { AreBounded values.new.items }
+    ensures bounded { All (IsWithin (pos value_limit)) values.new.items }
 {
     for place in 0..after {
         let sum = weighted_sum(chances, values, size, after, place);
@@ -106,11 +106,11 @@ pub(crate) fn expect(
     requires state { IsState (sizes model.now) s.now }
     requires space { IsSpace model.now space.now }
     requires count { length values.now ≡ state_count (sizes model.now) }
-    requires values { AreBounded values.now }
+    requires values { All (IsWithin (pos value_limit)) values.now }
     ensures count { OnOk result ((length work.new.low.items ≡ 1) × (length work.new.high.items ≡ 1)) }
     ensures low { OnOk result (slice_index_or work.new.low.items 0 (pos 0) ≡ expectation floor_of model.now (at (sizes model.now) values.now) action.now s.now) }
     ensures high { OnOk result (slice_index_or work.new.high.items 0 (pos 0) ≡ expectation ceil_of model.now (at (sizes model.now) values.now) action.now s.now) }
-    ensures bounded { OnOk result (AreBounded work.new.low.items × AreBounded work.new.high.items) }
+    ensures bounded { OnOk result (All (IsWithin (pos value_limit)) work.new.low.items × All (IsWithin (pos value_limit)) work.new.high.items) }
 {
     // Reading a field tells the proof what every model keeps.
     let _vars = &model.vars;

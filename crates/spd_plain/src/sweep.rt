@@ -9,7 +9,6 @@ ghost use Rattle.spd_model.specs.States.{sizes, states, at, table_of, state_coun
 ghost use Rattle.spd_model.specs.Chances.{IsValid};
 ghost use Rattle.spd_model.specs.Backup.{policy_of};
 ghost use Rattle.spd_model.specs.Turns.{value_limit, start_of, place_of, state_of_residual};
-ghost use Rattle.spd_plain.specs.Expectations.{AreBounded};
 ghost use Rattle.spd_plain.specs.Outlooks.{outlooks_of};
 ghost use Rattle.spd_plain.specs.Sweeps.{CanSweep, IsSweep, AreLimited, place_record};
 
@@ -147,7 +146,7 @@ fn side_of(bounds: &Bounds, value: i128, residual: i128) -> Side
 fn first_place_of(model: &Model, values: &[i128], sweep: &Sweep) -> usize
     requires valid { IsValid model.now }
     requires count { length values.now ≡ state_count_of (sizes model.now) }
-    requires bounded { AreBounded values.now }
+    requires bounded { All (IsWithin (pos value_limit)) values.now }
     requires sweep { IsSweep model.now values.now sweep.now }
     requires limited { All AreLimited sweep.now.ranges.items }
     ensures within { result < state_count_of (sizes model.now) }
