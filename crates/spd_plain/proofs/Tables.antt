@@ -1,12 +1,16 @@
 -- The states of the variables from one on, among the states of all variables.
-use Rattle.std.proofs.Common.{◌≡◌, ℕ, zero, suc, ◌+◌, ◌*◌, ◌<◌, ◌≤◌, List, [], ◌∷◌, ◌++◌, length, take, drop, drop-cons, get_or, slice_index, All, refl, ap, sym, ◌∙◌, subst, arith}
+use Rattle.std.proofs.Common.{◌≡◌, ℕ, zero, suc, ◌+◌, ◌*◌, ◌<◌, ◌≤◌, List, [], ◌∷◌, ◌++◌, length, map, add-one, take, drop, drop-cons, get_or, slice_index, All, refl, ap, sym, ◌∙◌, subst, arith}
 use Rattle.std.proofs.Math.Nat.{mul-le-mul_right}
-use Rattle.std.proofs.lemmas.List.Elements.{All-head, All-tail}
+use Rattle.std.proofs.lemmas.List.Elements.{All-head, All-tail, All-drop}
+use Rattle.std.proofs.lemmas.List.{get_or_default, map_push}
+use Rattle.spd_model.specs.Numbers.{numbers_below}
 use Rattle.spd_model.specs.Process.{Process}
 use Rattle.spd_model.specs.Lawful.{IsLawful}
 use Rattle.spd_model.specs.States.{sizes, states, state_count, rank, IsState}
 use Rattle.spd_model.specs.Chances.{sizes_after}
-use Rattle.spd_model.proofs.CallerLemmas.StateOrder.{IsState-get_or, rank-get_or, get_or-states, length-sizes, sizes_some}
+use Rattle.spd_model.proofs.CallerLemmas.StateOrder.{IsState-get_or, length-states, rank-get_or, get_or-states, length-sizes, sizes_some, state_count_some}
+use Rattle.spd_plain.specs.declared.space.Axis.{Axis}
+use Rattle.spd_plain.specs.Space.{IsAxis}
 
 -- the state of the first variable's value v and the others' k-th state
 pub get_or-states_more : (size : ℕ) (sizes : List ℕ) (v k : ℕ) → v < size → k < state_count sizes
@@ -59,19 +63,49 @@ module _ (m : Process) (i : ℕ) (near : i < length m.vars) where
   pub state_count-from : state_count (drop i (sizes m)) ≡ slice_index (sizes m) i * state_count (sizes_after m i)
   state_count-from = ap state_count drop-sizes
 
-  module _ (law : IsLawful m) where
-    pub few_from : slice_index (sizes m) i * state_count (sizes_after m i) ≤ state_count (sizes m)
-    few_from = omega (arith, state_count-from, state_count-drop (sizes m) i (sizes_some m law))
+  pub few_from : IsLawful m → slice_index (sizes m) i * state_count (sizes_after m i) ≤ state_count (sizes m)
+  few_from law = omega (arith, state_count-from, state_count-drop (sizes m) i (sizes_some m law))
 
-    -- the values of the variables from i on, in the state of i's value v and of the k-th state of those after it
-    module _ (v k : ℕ) (below : v < slice_index (sizes m) i) (place : k < state_count (sizes_after m i)) where
-      pub index_below : v * state_count (sizes_after m i) + k < slice_index (sizes m) i * state_count (sizes_after m i)
-      index_below = let more = mul-le-mul_right (state_count (sizes_after m i)) below in omega (arith, more)
+  -- the values of the variables from i on, in the state of i's value v and of the k-th state of those after it
+  pub from_more : (v k : ℕ) → v < slice_index (sizes m) i → k < state_count (sizes_after m i)
+      → get_or (states (drop i (sizes m))) (v * state_count (sizes_after m i) + k) [] ≡ v ∷ get_or (states (sizes_after m i)) k []
+  from_more v k below place =
+      ap (λ (l : List ℕ). get_or (states l) (v * state_count (sizes_after m i) + k) []) drop-sizes
+      ∙ get_or-states_more (slice_index (sizes m) i) (sizes_after m i) v k below place
 
-      pub from_more : get_or (states (drop i (sizes m))) (v * state_count (sizes_after m i) + k) [] ≡ v ∷ get_or (states (sizes_after m i)) k []
-      from_more =
-          ap (λ (l : List ℕ). get_or (states l) (v * state_count (sizes_after m i) + k) []) drop-sizes
-          ∙ get_or-states_more (slice_index (sizes m) i) (sizes_after m i) v k below place
+-- the states from a variable on, where it stands as an axis
+module _ (m : Process) (axis : Axis) (is : IsAxis m axis) where
+  pub size_is : axis.size ≡ slice_index (sizes m) axis.var
+  size_is = ap (λ (x : Axis). x.size) is.is
 
-      pub next_at : drop i (get_or (states (sizes m)) (v * state_count (sizes_after m i) + k) []) ≡ v ∷ get_or (states (sizes_after m i)) k []
-      next_at = drop-states (sizes m) i _ (sizes_some m law) (omega (arith, index_below, state_count-from)) ∙ from_more
+  pub after_is : axis.after ≡ state_count (sizes_after m axis.var)
+  after_is = ap (λ (x : Axis). x.after) is.is
+
+  pub axis_more : (v k : ℕ) → v < axis.size → k < axis.after → get_or (states (drop axis.var (sizes m))) (v * axis.after + k) [] ≡ v ∷ get_or (states (sizes_after m axis.var)) k []
+  axis_more v k below place =
+      ap (λ (n : ℕ). get_or (states (drop axis.var (sizes m))) (v * n + k) []) after_is
+      ∙ from_more m axis.var is.near v k (omega (arith, size_is)) (omega (arith, after_is))
+
+  pub counted : axis.size * axis.after ≡ state_count (drop axis.var (sizes m))
+  counted = ap (λ (x : Axis). x.size * x.after) is.is ∙ sym (state_count-from m axis.var is.near)
+
+module _ (m : Process) (law : IsLawful m) (axis : Axis) (is : IsAxis m axis) where
+  pub after_some : 0 < axis.after
+  after_some = omega (arith, after_is m axis is, state_count_some (sizes_after m axis.var) (All-drop (λ n. 0 < n) (suc axis.var) (sizes m) (sizes_some m law)))
+
+  pub near_state : (place : ℕ) → place < axis.size * axis.after → place < state_count (sizes m)
+  near_state place near = omega (arith, counted m axis is, state_count-drop (sizes m) axis.var (sizes_some m law))
+
+  pub own_state : (place : ℕ) → place < axis.size * axis.after → drop axis.var (get_or (states (sizes m)) place []) ≡ get_or (states (drop axis.var (sizes m))) place []
+  own_state place near = drop-states (sizes m) axis.var place (sizes_some m law) (omega (arith, counted m axis is))
+
+-- the state that is read in the list of all states
+pub state_is : (m : Process) (k : ℕ) (s : List ℕ) (all : List (List ℕ)) → all ≡ states (sizes m) → k < state_count (sizes m) → s ≡ get_or all k s → s ≡ get_or (states (sizes m)) k []
+state_is m k s all are near is = is ∙ get_or_default all k s [] (omega (arith, ap length are, length-states (sizes m))) ∙ ap (λ (l : List (List ℕ)). get_or l k []) are
+
+pub state_read : (m : Process) (k : ℕ) (s : List ℕ) (all : List (List ℕ)) → all ≡ states (sizes m) → k < state_count (sizes m) → s ≡ get_or all k s → IsState (sizes m) s
+state_read m k s all are near is = subst (IsState (sizes m)) (sym (state_is m k s all are near is)) (IsState-get_or (sizes m) k near)
+
+-- a list that tells f of the numbers below v, with one entry more
+pub map_below_more : {X : Type 0} (f : ℕ → X) (v : ℕ) (xs : List X) (x : X) → xs ≡ map f (numbers_below v) → x ≡ f v → xs ++ x ∷ [] ≡ map f (numbers_below (v + 1))
+map_below_more f v xs x are is = (λ i. are i ++ is i ∷ []) ∙ sym (ap (λ (n : ℕ). map f (numbers_below n)) (add-one v) ∙ map_push f (numbers_below v) v)

@@ -1,6 +1,7 @@
 -- Sums of values weighted by the chances of one variable's values: they fit 128 bits.
-use Rattle.std.proofs.Common.{◌≡◌, ℕ, suc, ◌+◌, ◌*◌, ◌<◌, ◌≤◌, List, length, All, ℤ, pos, ◌+ℤ◌, ◌*ℤ◌, ◌≤ℤ◌, ap, sym, subst, arith, FitsSigned, add-one, slice_index_or}
+use Rattle.std.proofs.Common.{◌≡◌, ℕ, suc, ◌+◌, ◌*◌, ◌<◌, ◌≤◌, ◌-◌, ◌++◌, List, length, take, replicate, All, ℤ, pos, ◌+ℤ◌, ◌*ℤ◌, ◌≤ℤ◌, ap, sym, ◌∙◌, subst, arith, below_more, length-append, FitsSigned, add-one, slice_index_or}
 use Rattle.std.proofs.lemmas.Int.{ints}
+use Rattle.std.proofs.lemmas.List.{take_all, length-replicate, get_or-replicate, get_or_append_left, get_or-append-add}
 use Rattle.std.proofs.Math.Nat.{mul-le-mul_right}
 use mir.Syntax.{w128}
 use Rattle.spd_scaled.specs.Scaled.{IsWithin}
@@ -69,3 +70,30 @@ pub weighted_same : (size after : ℕ) (chances xs ys : List ℤ) (k : ℕ) → 
 weighted_same size after chances xs ys k same =
     sum_below-cong size (λ v. entry after chances v k *ℤ entry after xs v k) (λ v. entry after chances v k *ℤ entry after ys v k)
     (λ v h. ap (λ x. entry after chances v k *ℤ x) (same (v * after + k) (omega arith)))
+
+-- One more entry, spread over `after` places.
+module _ (after v n : ℕ) (x : ℤ) (xs kept : List ℤ) (len : length xs ≡ v * after) (counted : n ≡ length xs) (is : x ≡ slice_index_or kept v (pos 0))
+    (each : (u k : ℕ) → u < v → k < after → slice_index_or xs (u * after + k) (pos 0) ≡ slice_index_or kept u (pos 0)) where
+  abbrev pub spread_list : List ℤ
+  spread_list = take ((v + 1) * after) xs ++ replicate ((v + 1) * after - n) x
+
+  spread_is : spread_list ≡ xs ++ replicate after x
+  spread_is =
+      let count : (v + 1) * after - n ≡ after = omega arith in
+      (λ i. take_all ((v + 1) * after) xs (omega arith) i ++ replicate (count i) x)
+
+  pub length-spread : length spread_list ≡ (v + 1) * after
+  length-spread = ap length spread_is ∙ length-append xs (replicate after x) ∙ omega (arith, length-replicate after x)
+
+  old_entry : (u k : ℕ) → u < v → k < after → slice_index_or (xs ++ replicate after x) (u * after + k) (pos 0) ≡ slice_index_or kept u (pos 0)
+  old_entry u k h near = get_or_append_left xs (replicate after x) (pos 0) (u * after + k) (omega (arith, entry_below u v k after h near)) ∙ each u k h near
+
+  new_entry : (k : ℕ) → k < after → slice_index_or (xs ++ replicate after x) (v * after + k) (pos 0) ≡ slice_index_or kept v (pos 0)
+  new_entry k near =
+      ap (λ (j : ℕ). slice_index_or (xs ++ replicate after x) (j + k) (pos 0)) (sym len) ∙ get_or-append-add xs (replicate after x) k (pos 0)
+      ∙ get_or-replicate after k x (pos 0) near ∙ is
+
+  pub entry-spread : (u k : ℕ) → u < v + 1 → k < after → slice_index_or spread_list (u * after + k) (pos 0) ≡ slice_index_or kept u (pos 0)
+  entry-spread u k h near =
+      ap (λ (l : List ℤ). slice_index_or l (u * after + k) (pos 0)) spread_is
+      ∙ below_more (λ u. slice_index_or (xs ++ replicate after x) (u * after + k) (pos 0) ≡ slice_index_or kept u (pos 0)) v (λ u p. old_entry u k p near) (new_entry k near) u h

@@ -1,5 +1,5 @@
 -- A sweep over all states of a model.
-use Rattle.std.specs.Prelude.{ℕ, All, ◌≡◌, ◌≤◌, List, length, map, ℤ, pos}
+use Rattle.std.specs.Prelude.{ℕ, All, ◌≡◌, List, length, map, ℤ, pos}
 use Rattle.spd_scaled.specs.Scaled.{IsWithin}
 use Rattle.spd_model.specs.declared.Side.{Side}
 use Rattle.spd_model.specs.declared.Side.TheVariants.{Above, Below}
@@ -16,12 +16,11 @@ use Rattle.spd_plain.specs.declared.sweep.Sweep.{Sweep}
 use Rattle.spd_plain.specs.declared.sweep.ResidualPlace.{ResidualPlace}
 use Rattle.spd_plain.specs.declared.solve.Stop.{Stop as Stopped}
 use Rattle.spd_plain.specs.Bounds.{range_of}
-use Rattle.spd_plain.specs.Space.{IsSpace, state_limit}
+use Rattle.spd_plain.specs.Space.{IsSpace}
 
--- what a sweep takes: a valid model, its states, which don't pass the limit, and one bounded value for each of them
+-- what a sweep takes: a valid model, its states, and one bounded value for each of them
 pub record CanSweep (m : Process) (space : Space) (values : List ℤ) : Type 0 where
   pub valid : IsValid m
-  pub few : state_count (sizes m) ≤ state_limit
   pub space_is : IsSpace m space
   pub count : length values ≡ state_count (sizes m)
   pub bounded : All (IsWithin (pos value_limit)) values

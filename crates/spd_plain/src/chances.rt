@@ -28,6 +28,28 @@ fn chance(model: &Model, action: &Action, s: &State, var: usize, next: &State) -
     model.value(&action.tables.as_slice()[var], s, next)
 }
 
+/// The same for the state at `place` of the variables from that of `axis` on.
+fn chance_at(
+    model: &Model,
+    action: &Action,
+    s: &State,
+    axis: &Axis,
+    space: &Space,
+    place: usize,
+) -> i128
+    requires action { Contains model.now.actions action.now }
+    requires state { IsState (sizes model.now) s.now }
+    requires axis { IsAxis model.now axis.now }
+    requires space { IsSpace model.now space.now }
+    requires place { place < axis.now.size * axis.now.after }
+    ensures value { result ≡ chance_of model.now action.now s.now axis.now.var (slice_index_or (states (drop axis.now.var (sizes model.now))) place []) }
+    ensures within { IsWithin (pos (10 ^ 30)) result }
+{
+    // Reading a field tells the proof what every model keeps.
+    let _vars = &model.vars;
+    chance(model, action, s, axis.var, &space.states.as_slice()[place])
+}
+
 /// The sum of the probabilities of a variable's values after `action` at `s`, where the variables after it have the values of their
 /// state at `place`.
 pub(crate) fn chance_sum(
@@ -45,10 +67,9 @@ pub(crate) fn chance_sum(
     requires place { place < axis.now.after }
     ensures { result ≡ sum_of model.now action.now s.now axis.now.var (slice_index_or (states (sizes_after model.now axis.now.var)) place []) }
 {
-    let states = space.states.as_slice();
     let mut sum = 0;
     for value in 0..axis.size {
-        sum += chance(model, action, s, axis.var, &states[value * axis.after + place]);
+        sum += chance_at(model, action, s, axis, space, value * axis.after + place);
     }
     sum
 }
@@ -79,10 +100,9 @@ pub(crate) fn kept_chances(
 {
     // Reading a field tells the proof what every model keeps.
     let _vars = &model.vars;
-    let states = space.states.as_slice();
     let mut kept = Vec::with_capacity(alloc, axis.size)?;
     for value in 0..axis.size {
-        kept.push(chance(model, action, s, axis.var, &states[value * axis.after]))?;
+        kept.push(chance_at(model, action, s, axis, space, value * axis.after))?;
     }
     Ok(Items::from_vec(kept))
 }
@@ -116,10 +136,9 @@ fn read_chances(
     requires space { IsSpace model.now space.now }
     ensures { OnOk result (TellsChances model.now action.now s.now axis.now.var chances.new.items) }
 {
-    let states = space.states.as_slice();
     chances.clear();
     for place in 0..axis.size * axis.after {
-        chances.push(chance(model, action, s, axis.var, &states[place]))?;
+        chances.push(chance_at(model, action, s, axis, space, place))?;
     }
     Ok(())
 }
@@ -141,6 +160,8 @@ pub(crate) fn tell_chances(
     requires known { IsKept model.now action.now s.now axis.now.var known.now }
     ensures { OnOk result (TellsChances model.now action.now s.now axis.now.var chances.new.items) }
 {
+    // Reading a field tells the proof what every model keeps.
+    let _vars = &model.vars;
     match known {
         Chances::Kept(kept) => spread(kept.as_slice(), axis.after, chances),
         Chances::Read => read_chances(model, action, s, axis, space, chances),
