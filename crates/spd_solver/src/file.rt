@@ -68,12 +68,13 @@ pub(crate) fn read_file<P: Place>(
     place.close_in(name, input);
     match read {
         Ok(bytes) => Ok(bytes),
-        Err(ReadAll::Fault) => Err(Unreadable::Read {
-            name: Text::from_slice(alloc, name)?,
-        }),
-        Err(ReadAll::TooLong) => Err(Unreadable::TooLong {
-            name: Text::from_slice(alloc, name)?,
-        }),
-        Err(ReadAll::Memory) => Err(Unreadable::Memory),
+        Err(fault) => {
+            let name = Text::from_slice(alloc, name)?;
+            match fault {
+                ReadAll::Fault => Err(Unreadable::Read { name }),
+                ReadAll::TooLong => Err(Unreadable::TooLong { name }),
+                ReadAll::Memory => Err(Unreadable::Memory),
+            }
+        }
     }
 }

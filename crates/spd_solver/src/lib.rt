@@ -12,6 +12,8 @@ mod solving;
 mod status;
 mod stub;
 mod tables;
+#[cfg(test)]
+mod tests;
 
 pub use file::FILE_LIMIT;
 pub use message::{number, write_message};

@@ -10,5 +10,3 @@ pub use file::law_one_model;
 pub(crate) use file::read_small;
 pub(crate) use unread::Unread;
 
-#[cfg(test)]
-mod tests;
