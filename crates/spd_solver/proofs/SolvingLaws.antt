@@ -48,16 +48,3 @@ module _ (m : Process) (options : Options) (p : Plain) (is : p ≡ plain_of m op
 -- a state has a value for each variable
 pub state_length : (m : Process) (s : List ℕ) → IsState (sizes m) s → length s ≡ length m.vars
 state_length m s is = length-IsState (sizes m) s is ∙ length-sizes m
-
--- the names of what is at fault tell the fault's cause
-pub fault_refuses : (m : Process) (fault : PlainFault) (why : Unsolved) → FaultCause m fault → IsInvalid m fault → why ≡ told_fault m fault
-    → RefusesProcess m (unsolved_status why)
-fault_refuses m fault why cause invalid is = subst (λ (u : Unsolved). RefusesProcess m (unsolved_status u)) (sym is) (refuses fault cause invalid)
-  where
-    refuses : (f : PlainFault) → FaultCause m f → IsInvalid m f → RefusesProcess m (unsolved_status (told_fault m f))
-    refuses (Fault.TooManyStates product) cause invalid = cause
-    refuses (Fault.Sum action var state sum) cause invalid =
-        (_, cause.0, cause.1, record { action_is = refl; var_is = refl; state_is = refl; sum_is = refl }, invalid)
-    refuses (Fault.Range action state value) cause invalid =
-        (_, cause.0, cause.1, cause.2, record { action_is = refl; state_is = refl; value_is = refl }, invalid)
-    refuses Fault.Memory cause invalid = tt

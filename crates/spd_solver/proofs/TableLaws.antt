@@ -78,12 +78,6 @@ module _ (m : Process) (w : List ℕ → ℤ) (some : 0 < length m.actions) wher
   pub policy_within : All (λ a. a < length m.actions) (table_of (sizes m) (policy_of m w))
   policy_within = All-table_of (λ a. a < length m.actions) (sizes m) (policy_of m w) (λ s is. policy_near m w some s)
 
-  abbrev place_above : List ℕ → Place
-  place_above s = record { state = s; side = Above; action = highest_of m w s }
-
-  abbrev place_below : List ℕ → Place
-  place_below s = record { state = s; side = Below; action = policy_of m w s }
-
   highest_near : (s : List ℕ) → highest_of m w s < length m.actions
   highest_near s =
       let highs = map (λ a. high_of m w a s) m.actions in
@@ -92,9 +86,12 @@ module _ (m : Process) (w : List ℕ → ℤ) (some : 0 < length m.actions) wher
       omega (arith, count, slice_get_within highs (highest_of m w s) (best_high m w s) reads)
 
   -- the action of a place, on whichever side
-  by_side : (s : List ℕ) (b : Bool) → (cond b (place_above s) (place_below s)).action < length m.actions
-  by_side s true = highest_near s
-  by_side s false = policy_near m w some s
+  by_side : (above below : Place) (b : Bool) → above.action < length m.actions → below.action < length m.actions → (cond b above below).action < length m.actions
+  by_side above below true h k = h
+  by_side above below false h k = k
 
   pub place_within : (r : ℤ) → (place_of m w r).action < length m.actions
-  place_within r = let s = state_of_residual m w r in by_side s (int_eq r (gap_above m w s))
+  place_within r =
+      let s = state_of_residual m w r in
+      by_side (record { state = s; side = Above; action = highest_of m w s }) (record { state = s; side = Below; action = policy_of m w s })
+      (int_eq r (gap_above m w s)) (highest_near s) (policy_near m w some s)

@@ -1,12 +1,9 @@
 -- Pieces that are written one after another.
-use Rattle.std.proofs.Common.{◌≡◌, ℕ, zero, suc, ◌+◌, ◌<◌, ◌≤◌, List, [], ◌∷◌, ◌++◌, length, take, drop, get_or, Bor, Option, Result, Ok, Err, refl, ap, sym, ◌∙◌, subst, arith, length-append, append_assoc, append-nil, add-one}
-use Rattle.std.proofs.lemmas.List.{take-append-le}
-use Rattle.std.proofs.Math.Seq.{take-append-add}
-use Rattle.std.specs.Prelude.{OnErr}
+use Rattle.std.proofs.Common.{◌≡◌, ℕ, zero, suc, ◌+◌, ◌<◌, ◌≤◌, List, [], ◌∷◌, ◌++◌, length, take, drop, get_or, Bor, Option, refl, ap, sym, ◌∙◌, subst, arith, append_assoc, append-nil, add-one}
+use Rattle.std.proofs.lemmas.List.{take-append-drop}
 use Rattle.spd_edge.specs.Told.{Took}
 use Rattle.spd_edge.proofs.ToldLemmas.{Took-trans}
 use Rattle.spd_solver.specs.Pieces.{joined, TookFront}
-
 
 -- the text of all pieces: of the first k, of the next one, of the others
 pub joined-split : (pieces : List (Bor (List ℕ))) (k : ℕ) (d : Bor (List ℕ)) → k < length pieces
@@ -31,15 +28,18 @@ Took-more a b c pieces k d h first next =
     subst (λ t. Took a t c) (sym (ap (λ (n : ℕ). joined (take n pieces)) (add-one k) ∙ joined-take_more pieces k d h)) (Took-trans a b c (joined (take k pieces)) (get_or pieces k d).now first next)
 
 -- the first k pieces were written whole, and of the next one the front
-pub TookFront-after : (a b c : Option (List ℕ)) (pieces : List (Bor (List ℕ))) (k : ℕ) (d : Bor (List ℕ)) → k < length pieces
-    → Took a (joined (take k pieces)) b → TookFront b (get_or pieces k d).now c → TookFront a (joined pieces) c
-TookFront-after a b c pieces k d h first next =
-    let before = joined (take k pieces) in
+pub TookFront-after : (a b c : Option (List ℕ)) (pieces : List (Bor (List ℕ))) (k : ℕ) (d : Bor (List ℕ)) (n : ℕ) → k < length pieces
+    → Took a (joined (take k pieces)) b → Took b (take n (get_or pieces k d).now) c → TookFront a (joined pieces) c
+TookFront-after a b c pieces k d n h first next =
     let piece = (get_or pieces k d).now in
-    let rest = joined (drop (suc k) pieces) in
-    let whole = joined-split pieces k d h in
-    let count : length before + next.0 ≤ length (joined pieces) =
-    rw whole (omega (arith, next.1, length-append before (piece ++ rest), length-append piece rest)) in
-    let front : take (length before + next.0) (joined pieces) ≡ before ++ take next.0 piece =
-    ap (take (length before + next.0)) whole ∙ take-append-add before (piece ++ rest) next.0 ∙ ap (λ t. before ++ t) (take-append-le next.0 piece rest next.1) in
-    (length before + next.0, count, subst (λ t. Took a t c) (sym front) (Took-trans a b c before (take next.0 piece) first next.2))
+    record {
+      front = joined (take k pieces) ++ take n piece;
+      rest = drop n piece ++ joined (drop (suc k) pieces);
+      split = joined-split pieces k d h
+          ∙ ap (λ (t : List ℕ). joined (take k pieces) ++ (t ++ joined (drop (suc k) pieces))) (sym (take-append-drop n piece))
+          ∙ regroup (joined (take k pieces)) (take n piece) (drop n piece) (joined (drop (suc k) pieces));
+      took = Took-trans a b c (joined (take k pieces)) (take n piece) first next;
+    }
+  where
+    regroup : (o t r u : List ℕ) → o ++ ((t ++ r) ++ u) ≡ (o ++ t) ++ (r ++ u)
+    regroup o t r u = simp append_assoc

@@ -55,7 +55,7 @@ returns-in_err-write_result-clause-means g c =
     (is_read c.args.file.now c.in_ok-bytes.bytes.items c.deref-2.result.now before now c.deref-2.ensures.value c.in_ok-bytes.ensures.held c.in_ok-bytes.ensures.within c.in_ok-bytes.ensures.calm)
     c.digest_of-digest.result (c.digest_of-digest.ensures ∙ ap sha256 (c.deref.ensures.value ∙ sym c.deref-2.ensures.value))
     c.in_ok-model.model c.in_ok-solution.solution c.in_ok-model.ensures.found c.in_ok-solution.ensures.solved
-    c.in_err-write_result.ensures.text c.in_err-write_result.ensures.count)
+    c.in_err-write_result.ensures.text c.in_err-write_result.ensures.count.0)
 
 pub returns-in_err-write_result-clause-asked : goal.returns-in_err-write_result-clause-asked
 returns-in_err-write_result-clause-asked g c = λ name not. c.read_file.ensures.other_stages name not ∙ c.requires.fresh name
