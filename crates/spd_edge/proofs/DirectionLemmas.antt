@@ -1,10 +1,8 @@
 -- What opens change in a direction.
-use Rattle.std.proofs.Common.{◌≡◌, ℕ, ◌≤◌, List, None, Some, Result, Ok, Err, refl, sym, ap, ◌∙◌, arith}
+use Rattle.std.proofs.Common.{◌≡◌, ℕ, List, Some, Result, Ok, Err, ap, ◌∙◌, arith}
 use Rattle.spd_edge.specs.declared.outside.Stage.{Stage}
-use Rattle.spd_edge.specs.declared.outside.Stage.TheVariants as Stage
 use Rattle.spd_edge.specs.declared.outside.Open.{Open}
-use Rattle.spd_edge.specs.declared.outside.Open.TheVariants as Open
-use Rattle.spd_edge.specs.Counts.{counted, Rose}
+use Rattle.spd_edge.specs.Counts.{AllInRange, NoneFalls, counted}
 use Rattle.spd_edge.specs.Names.{SameButFor}
 use Rattle.spd_edge.specs.Direction.{Direction, AfterOpen, FailsToOpen, Opens, staged}
 use Rattle.spd_edge.proofs.NamesLemmas.{updated-same, updated-other}
@@ -39,6 +37,21 @@ FailsToOpen-staged before asked now name first then_ = record {
       omega (arith, count);
   holds = ap (λ (d : Direction). d.holds) then_ ∙ ap (λ (d : Direction). d.holds) first;
 }
+
+-- no count falls where a name was asked for and opened
+pub NoneFalls-opened : (before asked now : Direction) (name : List ℕ) → asked ≡ staged before name Stage.Unopened → now ≡ staged asked name Stage.Open → NoneFalls before.faults now.faults
+NoneFalls-opened before asked now name first then_ other =
+    let same : now.faults other ≡ before.faults other = ap (λ (d : Direction). d.faults other) then_ ∙ ap (λ (d : Direction). d.faults other) first in
+    omega (arith, same)
+
+-- nor where it wasn't opened
+pub NoneFalls-failed : (before asked now : Direction) (name : List ℕ) → AllInRange asked.faults → asked ≡ staged before name Stage.Unopened
+    → now ≡ record asked { faults = λ other. counted (asked.faults other) 1 } → NoneFalls before.faults now.faults
+NoneFalls-failed before asked now name in_range first then_ other =
+    let bound = in_range other in
+    let same : asked.faults other ≡ before.faults other = ap (λ (d : Direction). d.faults other) first in
+    let more : now.faults other ≡ counted (asked.faults other) 1 = ap (λ (d : Direction). d.faults other) then_ in
+    omega (arith, bound, same, more)
 
 -- the answer of an open that failed
 pub AfterOpen-failed : {X : Type 0} (before now : Direction) (name : List ℕ) (answer : Result X Open) → answer ≡ Err Open.Failed → FailsToOpen before now name

@@ -1,6 +1,6 @@
-pub mod ToldLemmas
-pub mod NamesLemmas
-pub mod DirectionLemmas
-pub mod ShelfLemmas
-pub mod MemoryPlaceLemmas
+pub mod CallerLemmas
+mod NamesLemmas
+mod DirectionLemmas
+mod ShelfLemmas
+mod MemoryPlaceLemmas
 mod Rows

@@ -1,15 +1,14 @@
 -- What opens and closes of a place in memory change, as a direction shows it.
-use Rattle.std.proofs.Common.{◌≡◌, ◌≢◌, ℕ, ◌+◌, ◌-◌, ◌^◌, ◌<◌, ◌≤◌, List, Bool, true, false, ◌||◌, ◌&&◌, cond, Option, None, Some, IfSome, refl, sym, ap, ◌∙◌, subst, arith}
+use Rattle.std.proofs.Common.{◌≡◌, ℕ, ◌≤◌, List, Bool, true, false, ◌||◌, ◌&&◌, cond, Option, Some, IfSome, refl, sym, ap, subst, arith}
 use Rattle.std.specs.Prelude.{is_none, option_map}
-use Rattle.std.specs.Str.{bytes_eq}
 use Rattle.spd_edge.specs.declared.outside.Stage.{Stage}
-use Rattle.spd_edge.specs.declared.outside.Stage.TheVariants as Stage
 use Rattle.spd_edge.specs.Counts.{AllInRange, NoneFalls, counted}
 use Rattle.spd_edge.specs.Direction.{Closes, Direction, FailsToOpen, Opens}
 use Rattle.spd_edge.specs.Memory.{Input, Output}
 use Rattle.spd_edge.specs.Names.{updated}
 use Rattle.spd_edge.specs.MemoryPlace.{AllPut, Shelf, closed_on, counting, opened_on, refused_on, shares_count}
-use Rattle.spd_edge.proofs.NamesLemmas.{bytes_eq-same, bytes_eq-cases, updated-same, updated-other}
+use Rattle.spd_edge.proofs.CallerLemmas.{bytes_eq-same}
+use Rattle.spd_edge.proofs.NamesLemmas.{bytes_eq-cases, updated-same, updated-other}
 
 -- the bytes that each direction holds, by what was put there and what was closed
 abbrev pub bytes_put : (List ℕ → Option Input) → (List ℕ → Option Input) → List ℕ → Option (List ℕ)

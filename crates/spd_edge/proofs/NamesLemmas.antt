@@ -1,5 +1,5 @@
 -- Values by name, and look-ups by name in a list.
-use Rattle.std.proofs.Common.{◌≡◌, ◌≢◌, ℕ, ◌+◌, ◌<◌, List, [], ◌∷◌, ◌++◌, length, Bool, true, false, cond, ◌||◌, Option, None, Some, refl, sym, ap, ◌∙◌, arith}
+use Rattle.std.proofs.Common.{◌≡◌, ◌≢◌, ℕ, ◌<◌, List, [], ◌∷◌, ◌++◌, length, Bool, true, false, cond, ◌||◌, Option, None, Some, refl, sym, ap, ◌∙◌, arith}
 use Rattle.std.specs.Prelude.{find, position, option_map, slice_set, slice_index_or, slice_get}
 use Rattle.std.specs.Option.{option_map_or, option_or}
 use Rattle.std.specs.List.{position_or_len}
@@ -9,19 +9,8 @@ use Rattle.std.proofs.lemmas.Slice.Eq.{bytes_eq-Decides}
 use Rattle.std.proofs.lemmas.Option.{slice_get-get_or, slice_get_past}
 use Rattle.std.proofs.lemmas.List.Folds.{find-append, find-set, find_past, find_at, list_any-append}
 use Rattle.std.proofs.Math.Bool.{or-false}
+use Rattle.spd_edge.proofs.CallerLemmas.{bytes_eq-same, bytes_eq-other}
 use Rattle.spd_edge.specs.Names.{is_among, updated, SameButFor}
-
--- a text is itself
-pub bytes_eq-same : (name : List ℕ) → bytes_eq name name ≡ true
-bytes_eq-same name = (bytes_eq-Decides name name).1 refl
-
--- a text isn't another
-pub bytes_eq-other : (name other : List ℕ) → name ≢ other → bytes_eq name other ≡ false
-bytes_eq-other name other differ =
-    elim (bytes_eq name other) as (λ b. bytes_eq name other ≡ b → b ≡ false) [
-      | true ↦ λ same. absurd (differ ((bytes_eq-Decides name other).0 same))
-      | false ↦ λ _. refl
-    ] refl
 
 -- whether or not a text is another
 pub bytes_eq-cases : (P : Bool → Type 0) (name other : List ℕ) → (name ≡ other → P true) → (name ≢ other → P false) → P (bytes_eq name other)
@@ -38,11 +27,6 @@ updated-same values name x = ap (λ b. cond b x (values name)) (bytes_eq-same na
 -- the values of the other names
 pub updated-other : {X : Type 0} (values : List ℕ → X) (name : List ℕ) (x : X) → SameButFor values (updated values name x) name
 updated-other values name x other differ = ap (λ b. cond b x (values other)) (bytes_eq-other other name differ)
-
--- the later of two updates of a name
-pub updated-again : {X : Type 0} (values : List ℕ → X) (name : List ℕ) (x y : X) → updated (updated values name x) name y ≡ updated values name y
-updated-again values name x y i other =
-    elim (bytes_eq other name) as (λ b. cond b y (cond b x (values other)) ≡ cond b y (values other)) [ true ↦ refl | false ↦ refl ] i
 
 -- an update by the value that is there
 pub updated-kept : {X : Type 0} (values : List ℕ → X) (name : List ℕ) (x : X) → values name ≡ x → updated values name x ≡ values
@@ -96,14 +80,14 @@ module _ {E : Type 0} (label : E → List ℕ) where
       let named : label x ≡ name = found_label elements name x (under-found elements name at x is there) in
       bytes_eq-cases (λ b. under (slice_set elements at y) other ≡ cond b (Some y) (under elements other)) other name
       (λ same.
-        ap (under (slice_set elements at y)) same
-        ∙ find-set (λ element. bytes_eq (label element) name) elements at y first.0 first.1
-          ((bytes_eq-Decides (label y) name).1 (same_label ∙ named)))
+      ap (under (slice_set elements at y)) same
+      ∙ find-set (λ element. bytes_eq (label element) name) elements at y first.0 first.1
+      ((bytes_eq-Decides (label y) name).1 (same_label ∙ named)))
       (λ differ.
-        let fails : bytes_eq (label x) other ≡ false = bytes_eq-other (label x) other (λ same. differ (sym same ∙ named)) in
-        find_past (λ element. bytes_eq (label element) other) elements at y x
-        (ap (λ element. bytes_eq (label element) other) (sym there) ∙ fails)
-        (ap (λ l. bytes_eq l other) same_label ∙ fails))
+      let fails : bytes_eq (label x) other ≡ false = bytes_eq-other (label x) other (λ same. differ (sym same ∙ named)) in
+      find_past (λ element. bytes_eq (label element) other) elements at y x
+      (ap (λ element. bytes_eq (label element) other) (sym there) ∙ fails)
+      (ap (λ l. bytes_eq l other) same_label ∙ fails))
       i
 
   -- an element is put after the others, whose names are others
@@ -112,13 +96,13 @@ module _ {E : Type 0} (label : E → List ℕ) where
   under-push elements name y none named i other =
       bytes_eq-cases (λ b. under (elements ++ y ∷ []) other ≡ cond b (Some y) (under elements other)) other name
       (λ same.
-        find-append (λ element. bytes_eq (label element) other) elements (y ∷ [])
-        ∙ ap (λ o. option_or o (under (y ∷ []) other)) (ap (under elements) same ∙ none)
-        ∙ ap (λ b. cond b (Some y) None) ((bytes_eq-Decides (label y) other).1 (named ∙ sym same)))
+      find-append (λ element. bytes_eq (label element) other) elements (y ∷ [])
+      ∙ ap (λ o. option_or o (under (y ∷ []) other)) (ap (under elements) same ∙ none)
+      ∙ ap (λ b. cond b (Some y) None) ((bytes_eq-Decides (label y) other).1 (named ∙ sym same)))
       (λ differ.
-        find-append (λ element. bytes_eq (label element) other) elements (y ∷ [])
-        ∙ ap (λ b. option_or (under elements other) (cond b (Some y) None)) (bytes_eq-other (label y) other (λ same. differ (sym same ∙ named)))
-        ∙ or_none (under elements other))
+      find-append (λ element. bytes_eq (label element) other) elements (y ∷ [])
+      ∙ ap (λ b. option_or (under elements other) (cond b (Some y) None)) (bytes_eq-other (label y) other (λ same. differ (sym same ∙ named)))
+      ∙ or_none (under elements other))
       i
     where
       or_none : (o : Option E) → option_or o None ≡ o

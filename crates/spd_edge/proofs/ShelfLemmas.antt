@@ -1,6 +1,6 @@
 -- One direction of a place in memory, by name.
-use Rattle.std.proofs.Common.{◌≡◌, ◌≢◌, ℕ, ◌+◌, ◌-◌, ◌^◌, ◌<◌, ◌≤◌, List, [], ◌∷◌, ◌++◌, Bool, true, false, ◌||◌, ◌&&◌, cond, Option, None, Some, All, refl, sym, ap, ◌∙◌, subst, arith}
-use Rattle.std.specs.Prelude.{find, position, option_map, slice_set, slice_index_or, slice_get, is_none}
+use Rattle.std.proofs.Common.{◌≡◌, ◌≢◌, ℕ, ◌^◌, ◌<◌, List, [], ◌∷◌, ◌++◌, Bool, true, false, ◌||◌, ◌&&◌, cond, Option, None, Some, All, refl, sym, ap, ◌∙◌, subst}
+use Rattle.std.specs.Prelude.{position, option_map, slice_set, slice_index_or, slice_get, is_none}
 use Rattle.std.specs.Option.{option_map_or}
 use Rattle.std.specs.List.{position_or_len}
 use Rattle.std.specs.Str.{bytes_eq}
@@ -10,11 +10,11 @@ use Rattle.std.proofs.lemmas.List.Elements.{All-set}
 use Rattle.std.proofs.lemmas.List.Folds.{find_at}
 use Rattle.spd_edge.specs.declared.shelf.Put.{Put}
 use Rattle.spd_edge.specs.declared.outside.Stage.{Stage}
-use Rattle.spd_edge.specs.declared.outside.Stage.TheVariants as Stage
 use Rattle.spd_edge.specs.Counts.{AllInRange, counted}
 use Rattle.spd_edge.specs.Names.{is_among, updated}
 use Rattle.spd_edge.specs.MemoryPlace.{Kept, Shelf, put_among, shelf_of, shares_count, counting}
-use Rattle.spd_edge.proofs.NamesLemmas.{bytes_eq-same, bytes_eq-other, bytes_eq-cases, updated-kept, under-set, under-push, under-found, under-none, option_map-None, shown-updated, shown_or-updated, is_among-push}
+use Rattle.spd_edge.proofs.CallerLemmas.{bytes_eq-same, bytes_eq-other}
+use Rattle.spd_edge.proofs.NamesLemmas.{bytes_eq-cases, updated-kept, under-set, under-push, under-found, under-none, option_map-None, shown-updated, shown_or-updated, is_among-push}
 
 module _ {X : Type 0} where
   abbrev pub label : Put X → List ℕ
@@ -73,19 +73,19 @@ module _ {X : Type 0} where
       → counting shelf name more ≡ record shelf { faults = updated shelf.faults name (counted (shelf.faults name) more) }
   counting-put shelf name more x found =
       let count : (other : List ℕ) → cond (shares_count shelf name other) (counted (shelf.faults other) more) (shelf.faults other)
-          ≡ updated shelf.faults name (counted (shelf.faults name) more) other =
+      ≡ updated shelf.faults name (counted (shelf.faults name) more) other =
       λ other. bytes_eq-cases
-          (λ b. cond (b || (is_none (shelf.put name) && is_none (shelf.put other))) (counted (shelf.faults other) more) (shelf.faults other) ≡ cond b (counted (shelf.faults name) more) (shelf.faults other))
-          other name
-          (λ same. ap (λ q. counted (shelf.faults q) more) same)
-          (λ _. ap (λ o. cond (is_none o && is_none (shelf.put other)) (counted (shelf.faults other) more) (shelf.faults other)) found) in
+      (λ b. cond (b || (is_none (shelf.put name) && is_none (shelf.put other))) (counted (shelf.faults other) more) (shelf.faults other) ≡ cond b (counted (shelf.faults name) more) (shelf.faults other))
+      other name
+      (λ same. ap (λ q. counted (shelf.faults q) more) same)
+      (λ _. ap (λ o. cond (is_none o && is_none (shelf.put other)) (counted (shelf.faults other) more) (shelf.faults other)) found) in
       λ i. record { put = shelf.put; closed = shelf.closed; stage = shelf.stage; faults = λ other. count other i }
 
   -- an object is closed under a name under which something was put
   pub renewed-closed : (kept : Kept X) (name : List ℕ) (put now : Put X) (object : X) (more : ℕ) → put_among kept.puts name ≡ Some put
       → now ≡ record put { closed = Some object; stage = Some Stage.Closed; faults = counted put.faults more }
       → renewed (shelf_of kept) name now
-        ≡ counting (record (shelf_of kept) { closed = updated (shelf_of kept).closed name (Some object); stage = updated (shelf_of kept).stage name (Some Stage.Closed) }) name more
+      ≡ counting (record (shelf_of kept) { closed = updated (shelf_of kept).closed name (Some object); stage = updated (shelf_of kept).stage name (Some Stage.Closed) }) name more
   unfolding shelf_of
   renewed-closed kept name put now object more found is =
       let shelf = shelf_of kept in
@@ -94,44 +94,44 @@ module _ {X : Type 0} where
       let count : counted put.faults more ≡ counted (shelf.faults name) more = ap (λ o. counted (option_map_or (λ each. each.faults) o kept.faults) more) (sym found) in
       let marked : Shelf X = record shelf { closed = updated shelf.closed name (Some object); stage = updated shelf.stage name (Some Stage.Closed) } in
       let all : renewed shelf name (record put { closed = Some object; stage = Some Stage.Closed; faults = counted put.faults more })
-          ≡ record marked { faults = updated shelf.faults name (counted (shelf.faults name) more) } =
+      ≡ record marked { faults = updated shelf.faults name (counted (shelf.faults name) more) } =
       λ i. record {
-          put = objects i;
-          closed = updated shelf.closed name (Some object);
-          stage = updated shelf.stage name (Some Stage.Closed);
-          faults = updated shelf.faults name (count i);
+        put = objects i;
+        closed = updated shelf.closed name (Some object);
+        stage = updated shelf.stage name (Some Stage.Closed);
+        faults = updated shelf.faults name (count i);
       } in
       ap (renewed shelf name) is ∙ all ∙ sym (counting-put marked name more put.object here)
 
   -- a name under which nothing was put is refused, and a fault is counted
   refused-by : (kept : Kept X) (name : List ℕ) → put_among kept.puts name ≡ None
       → shelf_of (record kept { refused = kept.refused ++ name ∷ []; faults = counted kept.faults 1 })
-        ≡ counting (record (shelf_of kept) { stage = updated (shelf_of kept).stage name (Some Stage.Unopened) }) name 1
+      ≡ counting (record (shelf_of kept) { stage = updated (shelf_of kept).stage name (Some Stage.Unopened) }) name 1
   unfolding shelf_of
   refused-by kept name none =
       let shelf = shelf_of kept in
       let now : Kept X = record kept { refused = kept.refused ++ name ∷ []; faults = counted kept.faults 1 } in
       let staged : (other : List ℕ) → (shelf_of now).stage other ≡ updated shelf.stage name (Some Stage.Unopened) other =
       λ other. bytes_eq-cases (λ b. (shelf_of now).stage other ≡ cond b (Some Stage.Unopened) (shelf.stage other)) other name
-          (λ same.
-            ap (λ o. option_map_or (λ each. each.stage) o (cond (is_among now.refused other) (Some Stage.Unopened) None)) (ap (put_among kept.puts) same ∙ none)
-            ∙ ap (λ b. cond b (Some Stage.Unopened) None)
-              (is_among-push kept.refused name other ∙ ap (λ q. is_among kept.refused other || bytes_eq name q) same ∙ ap (λ b. is_among kept.refused other || b) (bytes_eq-same name) ∙ or-true (is_among kept.refused other)))
-          (λ differ.
-            ap (λ b. option_map_or (λ each. each.stage) (put_among kept.puts other) (cond b (Some Stage.Unopened) None))
-            (is_among-push kept.refused name other ∙ ap (λ b. is_among kept.refused other || b) (bytes_eq-other name other (λ same. differ (sym same))) ∙ or-false (is_among kept.refused other))) in
+      (λ same.
+      ap (λ o. option_map_or (λ each. each.stage) o (cond (is_among now.refused other) (Some Stage.Unopened) None)) (ap (put_among kept.puts) same ∙ none)
+      ∙ ap (λ b. cond b (Some Stage.Unopened) None)
+      (is_among-push kept.refused name other ∙ ap (λ q. is_among kept.refused other || bytes_eq name q) same ∙ ap (λ b. is_among kept.refused other || b) (bytes_eq-same name) ∙ or-true (is_among kept.refused other)))
+      (λ differ.
+      ap (λ b. option_map_or (λ each. each.stage) (put_among kept.puts other) (cond b (Some Stage.Unopened) None))
+      (is_among-push kept.refused name other ∙ ap (λ b. is_among kept.refused other || b) (bytes_eq-other name other (λ same. differ (sym same))) ∙ or-false (is_among kept.refused other))) in
       let count : (other : List ℕ) → (shelf_of now).faults other
-          ≡ cond (bytes_eq other name || (is_none (shelf.put name) && is_none (shelf.put other))) (counted (shelf.faults other) 1) (shelf.faults other) =
+      ≡ cond (bytes_eq other name || (is_none (shelf.put name) && is_none (shelf.put other))) (counted (shelf.faults other) 1) (shelf.faults other) =
       λ other.
-          let free : is_none (shelf.put name) ≡ true = ap (λ o. is_none (option_map (λ each. each.object) o)) none in
-          rw free (elim (put_among kept.puts other) as (λ o. put_among kept.puts other ≡ o
-              → option_map_or (λ each. each.faults) o (counted kept.faults 1)
-                ≡ cond (bytes_eq other name || is_none (option_map (λ each. each.object) o)) (counted (option_map_or (λ each. each.faults) o kept.faults) 1) (option_map_or (λ each. each.faults) o kept.faults)) [
-            | None ↦ λ _. ap (λ b. cond b (counted kept.faults 1) kept.faults) (sym (or-true (bytes_eq other name)))
-            | Some put ↦ λ found.
-                let differ : other ≢ name = λ same. let never : None ≡ Some put = sym none ∙ ap (put_among kept.puts) (sym same) ∙ found in cc never in
-                ap (λ b. cond (b || false) (counted put.faults 1) put.faults) (sym (bytes_eq-other other name differ))
-          ] refl) in
+      let free : is_none (shelf.put name) ≡ true = ap (λ o. is_none (option_map (λ each. each.object) o)) none in
+      rw free (elim (put_among kept.puts other) as (λ o. put_among kept.puts other ≡ o
+      → option_map_or (λ each. each.faults) o (counted kept.faults 1)
+      ≡ cond (bytes_eq other name || is_none (option_map (λ each. each.object) o)) (counted (option_map_or (λ each. each.faults) o kept.faults) 1) (option_map_or (λ each. each.faults) o kept.faults)) [
+        | None ↦ λ _. ap (λ b. cond b (counted kept.faults 1) kept.faults) (sym (or-true (bytes_eq other name)))
+        | Some put ↦ λ found.
+            let differ : other ≢ name = λ same. let never : None ≡ Some put = sym none ∙ ap (put_among kept.puts) (sym same) ∙ found in cc never in
+            ap (λ b. cond (b || false) (counted put.faults 1) put.faults) (sym (bytes_eq-other other name differ))
+      ] refl) in
       λ i. record { put = shelf.put; closed = shelf.closed; stage = λ other. staged other i; faults = λ other. count other i }
 
   -- a name under which nothing is shown to be put has nothing put under it
@@ -181,9 +181,9 @@ module _ {X : Type 0} where
   shelf-refuse kept now held name same none puts refused faults =
       subst (λ (h : Kept X). (shelf_of h).put name ≡ None → shelf_of now ≡ counting (record (shelf_of h) { stage = updated (shelf_of h).stage name (Some Stage.Unopened) }) name 1) same
       (λ shown.
-        let all : shelf_of now ≡ shelf_of (record kept { refused = kept.refused ++ name ∷ []; faults = counted kept.faults 1 }) =
-        λ i. shelf_of (record { puts = puts i; refused = refused i; faults = faults i }) in
-        all ∙ refused-by kept name (put-None kept name shown))
+      let all : shelf_of now ≡ shelf_of (record kept { refused = kept.refused ++ name ∷ []; faults = counted kept.faults 1 }) =
+      λ i. shelf_of (record { puts = puts i; refused = refused i; faults = faults i }) in
+      all ∙ refused-by kept name (put-None kept name shown))
       none
 
   -- an object was put
@@ -195,15 +195,15 @@ module _ {X : Type 0} where
   shelf-put kept now held name put same none named puts refused faults closed stage count =
       subst (λ (h : Kept X). (shelf_of h).put name ≡ None → shelf_of now ≡ record (shelf_of h) { put = updated (shelf_of h).put name (Some put.object) }) same
       (λ shown.
-        let shelf = shelf_of kept in
-        let stray = put-None kept name shown in
-        let no_close = updated-kept shelf.closed name put.closed (ap (λ o. option_map_or (λ each. each.closed) o None) stray ∙ sym closed) in
-        let same_stage = updated-kept shelf.stage name put.stage
-            (ap (λ o. option_map_or (λ each. each.stage) o (cond (is_among kept.refused name) (Some Stage.Unopened) None)) stray ∙ sym stage) in
-        let same_count = updated-kept shelf.faults name put.faults (ap (λ o. option_map_or (λ each. each.faults) o kept.faults) stray ∙ sym count) in
-        let all : renewed shelf name put ≡ record shelf { put = updated shelf.put name (Some put.object) } =
-        λ i. record { put = updated shelf.put name (Some put.object); closed = no_close i; stage = same_stage i; faults = same_count i } in
-        renewed-by kept now name put refused faults (ap (λ (xs : List (Put X)). put_among xs) puts ∙ under-push label kept.puts name put stray named) ∙ all)
+      let shelf = shelf_of kept in
+      let stray = put-None kept name shown in
+      let no_close = updated-kept shelf.closed name put.closed (ap (λ o. option_map_or (λ each. each.closed) o None) stray ∙ sym closed) in
+      let same_stage = updated-kept shelf.stage name put.stage
+      (ap (λ o. option_map_or (λ each. each.stage) o (cond (is_among kept.refused name) (Some Stage.Unopened) None)) stray ∙ sym stage) in
+      let same_count = updated-kept shelf.faults name put.faults (ap (λ o. option_map_or (λ each. each.faults) o kept.faults) stray ∙ sym count) in
+      let all : renewed shelf name put ≡ record shelf { put = updated shelf.put name (Some put.object) } =
+      λ i. record { put = updated shelf.put name (Some put.object); closed = no_close i; stage = same_stage i; faults = same_count i } in
+      renewed-by kept now name put refused faults (ap (λ (xs : List (Put X)). put_among xs) puts ∙ under-push label kept.puts name put stray named) ∙ all)
       none
 
   -- a name was marked as open
@@ -222,7 +222,7 @@ module _ {X : Type 0} where
   pub shelf-close : (kept held : Kept X) (name : List ℕ) (at : ℕ) (put : Put X) (object : X) (more count : ℕ) → kept ≡ held
       → position (λ each. bytes_eq (label each) name) kept.puts ≡ Some at → put ≡ slice_index_or kept.puts at put → count ≡ counted put.faults more
       → shelf_of (record kept { puts = slice_set kept.puts at (record put { closed = Some object; stage = Some Stage.Closed; faults = count }) })
-        ≡ counting (record (shelf_of held) { closed = updated (shelf_of held).closed name (Some object); stage = updated (shelf_of held).stage name (Some Stage.Closed) }) name more
+      ≡ counting (record (shelf_of held) { closed = updated (shelf_of held).closed name (Some object); stage = updated (shelf_of held).stage name (Some Stage.Closed) }) name more
   unfolding shelf_of
   shelf-close kept held name at put object more count same place there is =
       let now : Put X = record put { closed = Some object; stage = Some Stage.Closed; faults = count } in

@@ -1,9 +1,7 @@
 -- What a place shows of one direction, its inputs or its outputs, and what an open and a close of a name change there.
-use Rattle.std.specs.Prelude.{◌≡◌, ℕ, ◌⊎◌, List, Option, None, Some, Result, Ok, Err}
+use Rattle.std.specs.Prelude.{◌≡◌, ℕ, ◌⊎◌, List, Option, Some, Result, Ok, Err}
 use Rattle.spd_edge.specs.declared.outside.Stage.{Stage}
-use Rattle.spd_edge.specs.declared.outside.Stage.TheVariants as Stage
 use Rattle.spd_edge.specs.declared.outside.Open.{Open}
-use Rattle.spd_edge.specs.declared.outside.Open.TheVariants as Open
 use Rattle.spd_edge.specs.Counts.{counted, Rose}
 use Rattle.spd_edge.specs.Names.{SameButFor, updated}
 

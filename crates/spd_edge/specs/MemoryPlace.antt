@@ -7,9 +7,7 @@ use Rattle.spd_edge.specs.Direction.{Direction}
 use Rattle.spd_edge.specs.Memory.{Input, Output}
 use Rattle.spd_edge.specs.Names.{is_among, updated}
 use Rattle.spd_edge.specs.declared.outside.Open.{Open}
-use Rattle.spd_edge.specs.declared.outside.Open.TheVariants as Open
 use Rattle.spd_edge.specs.declared.outside.Stage.{Stage}
-use Rattle.spd_edge.specs.declared.outside.Stage.TheVariants as Stage
 use Rattle.spd_edge.specs.declared.shelf.Put.{Put}
 
 -- what one direction keeps: what was put there, the other names that it was asked to open, and the count of faults of all these

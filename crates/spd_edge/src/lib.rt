@@ -1,6 +1,9 @@
-//! The outside of the program: what its input is read from and its output is written to.
+//! All that the program knows of the outside: a [`Source`] gives bytes, a [`Sink`] takes them, and a [`Place`] opens inputs and outputs
+//! by their names, each with its counts of faults.
 //!
-//! Everything above reads through [`Source`] and [`Place`] and writes through [`Sink`].
+//! Where a source tells what it has left, a sink what it took and a place what it holds, contracts speak of those bytes. Over memory
+//! ([`MemIn`], [`MemOut`], [`MemPlace`]) all of them do. [`RealPlace`] with [`FileIn`], [`FileOut`], [`StdIn`], [`StdOut`] and [`StdErr`]
+//! adapts the system and tells nothing: it is the edge that is trusted.
 #![tactic(auto)]
 
 mod in_memory;

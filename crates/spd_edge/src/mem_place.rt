@@ -1,4 +1,4 @@
-//! A place in memory, for tests.
+//! A place in memory: inputs and outputs that were put there under names.
 ghost use Rattle.std.specs.Prelude.{◌≡◌, ◌≢◌, ℕ, ◌^◌, ◌<◌, ◌≤◌, List, [], None, Some, IsSome, IfOk, OnOk, OnErr, IfSome, option_map, option_copied};
 ghost use Rattle.spd_edge.specs.Counts.{AllInRange, NoneFalls};
 ghost use Rattle.spd_edge.specs.Direction.{AfterOpen, Closes};

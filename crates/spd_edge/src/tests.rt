@@ -5,6 +5,7 @@ use crate::{
     Failed, FileIn, FileOut, MemIn, MemOut, MemPlace, Open, Place, ReadAll, ReaderIn, RealPlace,
     Sink, Source, StdErr, StdIn, StdOut, WriterOut, read_all, write_all_of,
 };
+use std::alloc::AllocError;
 use std::fs::File;
 use std::io::Write;
 use std::test::Fail;
@@ -73,39 +74,67 @@ fn writes_until_a_write_fails(rt: HostRuntime) -> Result<(), Fail> {
     Ok(())
 }
 
+/// What a place in memory reads under a name, where `hello` was put under `a`: nothing where the name
+/// isn't opened.
+fn read_put(
+    rt: &HostRuntime,
+    name: &[u8],
+    fail: &[u64],
+) -> Result<Option<Result<Vec<u8>, ReadAll>>, Fail> {
+    let mut place = MemPlace::new(rt.alloc());
+    place.put_in(b"a", mem_in(rt, b"hello", 3, fail)?)?;
+    match place.open_in(name) {
+        Ok(mut input) => {
+            let read = read_all(rt.alloc(), &mut input, 9);
+            place.close_in(name, input);
+            Ok(Some(read))
+        }
+        Err(Open::Failed) => Ok(None),
+        Err(Open::Memory) => Err(Fail::from(AllocError)),
+    }
+}
+
 #[test]
 fn opens_what_was_put(rt: HostRuntime) -> Result<(), Fail> {
-    let mut place = MemPlace::new(rt.alloc());
-    place.put_in(b"a", mem_in(&rt, b"hello", 3, &[])?)?;
-    place.put_in(b"-", mem_in(&rt, b"bye", 3, &[0])?)?;
-    let mut a = place.open_in(b"a")?;
-    assert!(rt; matches!(place.open_in(b"b"), Err(Open::Failed)));
-    assert_eq!(rt; a.name(), b"a".as_slice());
-    assert_eq!(rt;
-        read_all(rt.alloc(), &mut a, 9)?.as_slice(),
-        b"hello".as_slice()
-    );
-    let mut standard = place.open_in(b"-")?;
-    assert!(rt; matches!(read_all(rt.alloc(), &mut standard, 9), Err(ReadAll::Fault)));
-    assert_eq!(rt; standard.faults(), 1);
-    place.close_in(b"a", a);
-    place.close_in(b"-", standard);
+    let read = read_put(&rt, b"a", &[])?.ok_or("not opened")?;
+    assert_eq!(rt; read?.as_slice(), b"hello".as_slice());
+    let failed = read_put(&rt, b"a", &[0])?.ok_or("not opened")?;
+    assert!(rt; matches!(failed, Err(ReadAll::Fault)));
+    assert!(rt; read_put(&rt, b"b", &[])?.is_none());
     Ok(())
+}
+
+/// The fault count of an output that was put under `a` and that was written to under a name, and what it
+/// took: nothing where the name isn't opened.
+fn write_put(rt: &HostRuntime, name: &[u8], fail: &[u64]) -> Result<Option<(u64, Vec<u8>)>, Fail> {
+    let mut place = MemPlace::new(rt.alloc());
+    place.put_out(b"a", mem_out(rt, 99, 4, fail)?)?;
+    let mut output = match place.open_out(name) {
+        Ok(output) => output,
+        Err(Open::Failed) => return Ok(None),
+        Err(Open::Memory) => return Err(Fail::from(AllocError)),
+    };
+    let _ = write_all_of(&mut output, b"hello world!");
+    let faults = output.faults();
+    place.close_out(name, output);
+    match place.taken(name) {
+        Some(taken) => Ok(Some((faults, taken.to_vec(rt.alloc())?))),
+        None => Err(Fail::from("not closed")),
+    }
 }
 
 #[test]
 fn keeps_what_outputs_took(rt: HostRuntime) -> Result<(), Fail> {
-    let mut place = MemPlace::new(rt.alloc());
-    place.put_out(b"o", mem_out(&rt, 99, 4, &[2])?)?;
-    let mut output = place.open_out(b"o")?;
-    assert_eq!(rt; output.name(), b"o".as_slice());
-    assert!(rt; matches!(place.open_out(b"p"), Err(Open::Failed)));
-    assert_eq!(rt; write_all_of(&mut output, b"hello world!"), Err(Failed));
-    assert_eq!(rt; output.faults(), 1);
-    assert!(rt; place.taken(b"o").is_none());
-    place.close_out(b"o", output);
-    assert_eq!(rt; place.taken(b"o").ok_or("not closed")?, b"hello wo".as_slice());
-    assert!(rt; place.taken(b"p").is_none());
+    let cases = [
+        ([].as_slice(), 0, b"hello world!".as_slice()),
+        ([2].as_slice(), 1, b"hello wo".as_slice()),
+    ];
+    for (fail, want_faults, want) in cases {
+        let (faults, taken) = write_put(&rt, b"a", fail)?.ok_or("not opened")?;
+        assert_eq!(rt; faults, want_faults);
+        assert_eq!(rt; taken.as_slice(), want);
+    }
+    assert!(rt; write_put(&rt, b"b", &[])?.is_none());
     Ok(())
 }
 

@@ -1,8 +1,8 @@
-use Rattle.std.proofs.Common.{◌≡◌, ap, ◌∙◌, arith, rules}
+use Rattle.std.proofs.Common.{◌≡◌, ap, ◌∙◌, rules}
 use Rattle.spd_edge.specs.declared.outside.Stage.TheVariants as Stage
-use Rattle.spd_edge.specs.Direction.{Direction, staged}
+use Rattle.spd_edge.specs.Direction.{staged}
 use Rattle.spd_edge.specs.Real.{RealDirections, shown_by}
-use Rattle.spd_edge.proofs.DirectionLemmas.{staged-stage, Opens-staged, FailsToOpen-staged, AfterOpen-failed}
+use Rattle.spd_edge.proofs.DirectionLemmas.{staged-stage, Opens-staged, FailsToOpen-staged, AfterOpen-failed, NoneFalls-opened, NoneFalls-failed}
 use Rattle.spd_edge.proofs.real.RealPlacePlace.open_out.Goals as goal
 
 pub settle-requires : goal.settle-requires
@@ -15,11 +15,10 @@ returns-clause-outputs g c =
     Opens-staged (shown_by c.args.self.now.outputs) (shown_by c.ask.new.self) (shown_by c.settle.new.self) c.args.name.now asked c.in_ok-stream.ensures.opened
 
 pub returns-clause-never_falls : goal.returns-clause-never_falls
-returns-clause-never_falls g c = λ name.
-    let before : c.self.inside.outputs.faults ≡ c.args.self.now.outputs.faults = ap (λ (place : RealDirections). place.outputs.faults) c.self.view_is in
-    let asked = ap (λ (d : Direction). d.faults name) c.in_ok-ask.ensures.ok in
-    let opened = ap (λ (d : Direction). d.faults name) c.in_ok-stream.ensures.opened in
-    omega (arith, before, asked, opened)
+returns-clause-never_falls g c =
+    let asked : shown_by c.ask.new.self ≡ staged (shown_by c.args.self.now.outputs) c.args.name.now Stage.Unopened =
+    c.in_ok-ask.ensures.ok ∙ ap (λ (place : RealDirections). staged (shown_by place.outputs) c.args.name.now Stage.Unopened) c.self.view_is in
+    NoneFalls-opened (shown_by c.args.self.now.outputs) (shown_by c.ask.new.self) (shown_by c.settle.new.self) c.args.name.now asked c.in_ok-stream.ensures.opened
 
 pub returns-in_err-stream-clause-outputs : goal.returns-in_err-stream-clause-outputs
 returns-in_err-stream-clause-outputs g c =
@@ -29,9 +28,7 @@ returns-in_err-stream-clause-outputs g c =
     (FailsToOpen-staged (shown_by c.args.self.now.outputs) (shown_by c.ask.new.self) (shown_by c.settle.new.self) c.args.name.now asked c.in_err-stream.ensures.failed)
 
 pub returns-in_err-stream-clause-never_falls : goal.returns-in_err-stream-clause-never_falls
-returns-in_err-stream-clause-never_falls g c = λ name.
-    let before : c.self.inside.outputs.faults ≡ c.args.self.now.outputs.faults = ap (λ (place : RealDirections). place.outputs.faults) c.self.view_is in
-    let asked = ap (λ (d : Direction). d.faults name) c.in_ok-ask.ensures.ok in
-    let failed = ap (λ (d : Direction). d.faults name) c.in_err-stream.ensures.failed in
-    let in_range = c.ask.new.self.in_range in
-    omega (arith, before, asked, failed, in_range)
+returns-in_err-stream-clause-never_falls g c =
+    let asked : shown_by c.ask.new.self ≡ staged (shown_by c.args.self.now.outputs) c.args.name.now Stage.Unopened =
+    c.in_ok-ask.ensures.ok ∙ ap (λ (place : RealDirections). staged (shown_by place.outputs) c.args.name.now Stage.Unopened) c.self.view_is in
+    NoneFalls-failed (shown_by c.args.self.now.outputs) (shown_by c.ask.new.self) (shown_by c.settle.new.self) c.args.name.now (λ _. c.ask.new.self.in_range) asked c.in_err-stream.ensures.failed

@@ -13,7 +13,7 @@ returns-in-Some g c =
     ap (position (λ each. bytes_eq (label each) c.args.name.now)) (sym c.deref.ensures.value) ∙ sym c.in-Some.ensures in
     c.as_ref.ensures.value
     ∙ ap (λ o. option_map_or (λ put. put.closed) o None)
-      (sym (shelf-found (record { puts = c.self.inside.puts.items; refused = c.self.inside.refused; faults = c.self.inside.faults }) c.args.self.now c.args.name.now c.in-Some.at c.index.result.now c.self.view_is place c.index.ensures))
+    (sym (shelf-found (record { puts = c.self.inside.puts.items; refused = c.self.inside.refused; faults = c.self.inside.faults }) c.args.self.now c.args.name.now c.in-Some.at c.index.result.now c.self.view_is place c.index.ensures))
 
 pub returns-in-None : goal.returns-in-None
 unfolding shelf_of
