@@ -12,7 +12,8 @@ use Rattle.spd_model.specs.Reduced.{Diagram, leaf, branch, Subtrees, none, also,
 use Rattle.spd_model.specs.States.{IsState}
 use Rattle.spd_nodes.specs.Trees.{leaf_eq}
 use Rattle.spd_nodes.specs.declared.leaf.Leaf.{Leaf}
-use Rattle.spd_frozen.specs.Frozen.{entry_at, frozen_of, IsAfter, IsNodeAt, IsFrozen, diagrams, reached, reached_among, leaf_at}
+use Rattle.spd_model.proofs.CallerLemmas.StateOrder.{length-IsState, value_below}
+use Rattle.spd_frozen.specs.Frozen.{entry_at, frozen_of, HasKid, IsAfter, IsNodeAt, IsFrozen, diagrams, reached, reached_among, leaf_at}
 use Rattle.spd_frozen.specs.Fits.{FitsNode, FitsSizes, HasLeaf, HasLeaves}
 use Rattle.spd_frozen.specs.inner.Unique.{AreAmong, HasSubtreesAmong}
 use Rattle.spd_frozen.proofs.Places.{D, is_equal-true, number-is, number-below, number-append, there-or-new, with_node-new}
@@ -265,3 +266,14 @@ pub table-list : (all : List (Node Leaf)) (ds : List D) (start : List (Node Leaf
 table-list all ds start sz sz' leaves e n empty same =
     e ∙ ap (λ (l : List D). map (node_of leaf_eq l) l) (n ∙ ap (λ (l : List (Node Leaf)). nodes_after leaf_eq (diagrams l) (reduced_from leaf_eq 0 sz (entry_at sz leaves))) empty)
     ∙ ap (λ (l : List ℕ). frozen_of l (entry_at l leaves)) same
+
+-- a diagram that fits some variables can be followed at each of their states
+pub fits-kids : (sizes s : List ℕ) (all : List (Node Leaf)) → FitsSizes sizes all → IsState sizes s → All (HasKid s) all
+fits-kids sizes s all h state = All-weaker (FitsNode sizes) (HasKid s) kid all h
+  where
+    kid : (n : Node Leaf) → FitsNode sizes n → HasKid s n
+    kid (Node.leaf x) f = tt
+    kid (Node.branch v kids) f = (
+        omega (arith, length-IsState sizes s state, f.0),
+        subst (λ (m : ℕ). slice_index s v < m) (sym f.1) (value_below sizes s state v f.0),
+      )

@@ -1,3 +1,4 @@
+mod Rows
 pub mod Places
 pub mod Completion
 pub mod Reading

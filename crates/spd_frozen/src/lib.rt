@@ -5,6 +5,8 @@ mod frozen;
 mod iterate;
 mod node;
 mod table;
+#[cfg(test)]
+mod tests;
 mod unique;
 
 pub use frozen::Frozen;
