@@ -2,7 +2,7 @@
 use Rattle.std.proofs.Common.{◌≡◌, ℕ, ◌≤◌, List, length, ℤ, Option, Some, None, Ok, Err, IfOk, IfSome, Result, refl, sym, ap, subst, ◌∙◌, arith}
 use Rattle.std.proofs.lemmas.Option.{same_Some, none-some}
 use Rattle.sha2.specs.Sha256.{sha256}
-use Rattle.spd_edge.specs.Told.{Took}
+use Rattle.spd_edge.specs.Told.{Took, TookFront}
 use Rattle.spd_edge.specs.Counts.{Rose}
 use Rattle.spd_model.specs.declared.Why.{Why}
 use Rattle.spd_model.specs.declared.Why.TheVariants as Why
@@ -22,7 +22,6 @@ use Rattle.spd_solver.specs.declared.status.Status.TheVariants.{Done, TurnLimit,
 use Rattle.spd_solver.specs.Command.{Command, solve}
 use Rattle.spd_solver.specs.Describes.{Describes}
 use Rattle.spd_solver.specs.Kind.{Kind, whole, kind_of}
-use Rattle.spd_solver.specs.Pieces.{TookFront}
 use Rattle.spd_solver.specs.Run.{Ends, Accepts, Completes, Seen, ReadsCalmly, IsUnwritten, Means}
 use Rattle.spd_solver.specs.Solve.{residual, IsFileOf, TellsStop, HasFewStates, RefusesProcess}
 use Rattle.spd_solver.specs.inner.Stages.{IsSolution, finished_status, unread_status, unsolved_status}

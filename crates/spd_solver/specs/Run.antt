@@ -2,7 +2,7 @@
 use Rattle.std.specs.Prelude.{ℕ, ◌<◌, ◌≡◌, List, length, Option, Some, IfSome}
 use Rattle.spd_edge.specs.Counts.{Rose, NoneFalls}
 use Rattle.spd_edge.specs.Direction.{Direction}
-use Rattle.spd_edge.specs.Told.{Took}
+use Rattle.spd_edge.specs.Told.{Took, TookFront}
 use Rattle.spd_edge.specs.declared.outside.Stage.TheVariants as Stage
 use Rattle.spd_model.specs.Process.{Process}
 use Rattle.spd_model.specs.Chances.{IsValid}
@@ -10,7 +10,6 @@ use Rattle.spd_solver.specs.declared.status.Status.{Status}
 use Rattle.spd_solver.specs.declared.status.Status.TheVariants.{OpenFault, ReadFault, TooLong}
 use Rattle.spd_solver.specs.Command.{Command, solve}
 use Rattle.spd_solver.specs.Kind.{Kind, whole, cut, refusal, outside, memory, usage}
-use Rattle.spd_solver.specs.Pieces.{TookFront}
 use Rattle.spd_solver.specs.Solve.{file_limit, IsFileOf, IsSolved, HasFewStates, RefusesFile}
 
 -- the bytes that a place holds under each name, where it tells them

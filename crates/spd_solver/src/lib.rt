@@ -10,7 +10,6 @@ mod run;
 mod small;
 mod solving;
 mod status;
-mod stub;
 mod tables;
 #[cfg(test)]
 mod tests;

@@ -1,6 +1,6 @@
 //! The number and the message of a status.
-ghost use Rattle.std.specs.Prelude.{◌≡◌, ◌≤◌};
-ghost use Rattle.spd_solver.specs.Pieces.{Wrote, Counted};
+ghost use Rattle.std.specs.Prelude.{◌≡◌};
+ghost use Rattle.spd_text.specs.Writing.{Wrote, Counted};
 ghost use Rattle.spd_solver.specs.Message.{number_of, sum_message, range_message, message_of};
 
 use crate::pieces::write_pieces;
@@ -38,7 +38,6 @@ fn write_sum<'a, K: Sink>(
 ) -> Result<(), Failed>
     ensures text { Wrote (K.taken k.old) (sum_message action.now var.now state.now sum.now) result (K.taken k.new) }
     ensures count { Counted (K.faults k.old) result (K.faults k.new) }
-    ensures never_falls { K.faults k.old ≤ K.faults k.new }
     ensures named { K.name k.new ≡ K.name k.old }
 {
     write_pieces(
@@ -66,7 +65,6 @@ fn write_range<'a, K: Sink>(
 ) -> Result<(), Failed>
     ensures text { Wrote (K.taken k.old) (range_message action.now state.now value.now) result (K.taken k.new) }
     ensures count { Counted (K.faults k.old) result (K.faults k.new) }
-    ensures never_falls { K.faults k.old ≤ K.faults k.new }
     ensures named { K.name k.new ≡ K.name k.old }
 {
     write_pieces(
@@ -91,7 +89,6 @@ fn write_range<'a, K: Sink>(
 pub fn write_message<K: Sink>(status: &Status, k: &mut K) -> Result<(), Failed>
     ensures text { Wrote (K.taken k.old) (message_of status.now) result (K.taken k.new) }
     ensures count { Counted (K.faults k.old) result (K.faults k.new) }
-    ensures never_falls { K.faults k.old ≤ K.faults k.new }
     ensures named { K.name k.new ≡ K.name k.old }
 {
     match status {

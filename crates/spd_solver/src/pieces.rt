@@ -1,6 +1,7 @@
 //! Writing pieces of a text one after another, without memory.
-ghost use Rattle.std.specs.Prelude.{◌≡◌, ◌≤◌};
-ghost use Rattle.spd_solver.specs.Pieces.{joined, Wrote, Counted};
+ghost use Rattle.std.specs.Prelude.{◌≡◌};
+ghost use Rattle.spd_solver.specs.Pieces.{joined};
+ghost use Rattle.spd_text.specs.Writing.{Wrote, Counted};
 
 use spd_edge::{Failed, Sink, write_all_of};
 
@@ -8,7 +9,6 @@ use spd_edge::{Failed, Sink, write_all_of};
 pub(crate) fn write_pieces<K: Sink>(k: &mut K, pieces: &[&[u8]]) -> Result<(), Failed>
     ensures text { Wrote (K.taken k.old) (joined pieces.now) result (K.taken k.new) }
     ensures count { Counted (K.faults k.old) result (K.faults k.new) }
-    ensures never_falls { K.faults k.old ≤ K.faults k.new }
     ensures named { K.name k.new ≡ K.name k.old }
 {
     for piece in pieces {

@@ -15,10 +15,10 @@ use crate::file::{FILE_LIMIT, read_file};
 use crate::small::read_small;
 use crate::solving::{Solution, solve_model};
 use crate::status::Status;
-use crate::stub::write_result;
 use sha2::{Digest, Sha256};
 use spd_edge::{Place, Sink};
 use spd_model::{Options, Why, Word};
+use spd_text::write_result;
 use std::alloc::Global;
 
 /// The digest by which a result names its model's file.

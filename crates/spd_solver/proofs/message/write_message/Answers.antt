@@ -2,7 +2,7 @@ use Rattle.std.proofs.Common.{◌≡◌, ℕ, List, sym, ap, subst, ◌∙◌, F
 use Rattle.std.specs.Int.{w128}
 use Rattle.std.proofs.lemmas.Int.{to_z-of_z}
 use Rattle.spd_scaled.specs.Units.{units_text}
-use Rattle.spd_solver.specs.Pieces.{Wrote}
+use Rattle.spd_text.specs.Writing.{Wrote}
 use Rattle.spd_solver.specs.Message.{sum_message, message_of}
 use Rattle.spd_solver.proofs.message.write_message.Goals as goal
 

@@ -7,7 +7,7 @@ pub returns-in_err-write_all_of-clause-text : goal.returns-in_err-write_all_of-c
 returns-in_err-write_all_of-clause-text g c =
     let front = c.in_err-write_all_of.ensures.prefix in
     MatchResult-from_err c.from_residual.result _ _ c.from_residual.ensures.0 (λ _.
-    TookFront-after _ _ _ c.args.pieces.now c.loop-piece.piece-index _ front.0 c.loop-piece-test.true c.loop-piece.invariant.0 front.2)
+    TookFront-after _ _ _ c.args.pieces.now c.loop-piece.piece-index _ c.loop-piece-test.true c.loop-piece.invariant.0 (front.0, omega (arith, front.1), front.2))
 
 pub loop-piece-preserved : goal.loop-piece-preserved
 loop-piece-preserved g c =
