@@ -117,7 +117,11 @@ fn padded<R: AllocGlobal>(rt: &R, len: usize) -> Result<Vec<u8>, Fail> {
 
 #[test]
 fn longest_file(rt: HostRuntime) -> Result<(), Fail> {
-    assert_solved(&rt, "the longest file", &solve(&rt, &padded(&rt, FILE_LIMIT)?)?);
+    assert_solved(
+        &rt,
+        "the longest file",
+        &solve(&rt, &padded(&rt, FILE_LIMIT)?)?,
+    );
     let too_long = padded(&rt, FILE_LIMIT + 1)?;
     assert_answer(&rt, &solve(&rt, &too_long)?, 4, "m is too long\n", 0);
     Ok(())

@@ -40,23 +40,43 @@ pub fn assert_solved<R: Abort>(rt: &R, what: &str, answer: &Answer) {
 }
 
 const REFUSED: &[Edit] = &[
-    ("no bracket before the variables", b"(variables", b"variables"),
+    (
+        "no bracket before the variables",
+        b"(variables",
+        b"variables",
+    ),
     ("another word for `variables`", b"variables", b"variable"),
     ("no bracket before the variable", b"(x yes", b"x yes"),
     ("no variable", b"(x yes no)", b"()"),
     ("no value", b"(x yes no)", b"(x)"),
     ("one value", b"(x yes no)", b"(x yes)"),
-    ("a value without a branch", b"(x yes no)", b"(x yes no maybe)"),
+    (
+        "a value without a branch",
+        b"(x yes no)",
+        b"(x yes no maybe)",
+    ),
     ("a value twice", b"(x yes no)", b"(x yes no yes)"),
-    ("a variable that begins with a digit", b"(x yes no)", b"(1 yes no)"),
+    (
+        "a variable that begins with a digit",
+        b"(x yes no)",
+        b"(1 yes no)",
+    ),
     ("a variable with a point", b"(x yes no)", b"(x.y yes no)"),
     (
         "a variable that is a word of the grammar",
         b"(x yes no)",
         b"(reward yes no)",
     ),
-    ("a value that begins with a point", b"(x yes no)", b"(x .yes no)"),
-    ("a value that begins with a dash", b"(x yes no)", b"(x -yes no)"),
+    (
+        "a value that begins with a point",
+        b"(x yes no)",
+        b"(x .yes no)",
+    ),
+    (
+        "a value that begins with a dash",
+        b"(x yes no)",
+        b"(x -yes no)",
+    ),
     ("a value with a star", b"(x yes no)", b"(x yes no*)"),
     (
         "a second variable",
@@ -90,11 +110,7 @@ const REFUSED: &[Edit] = &[
         b"endaction action stay x (1) endaction",
     ),
     ("a comment", b"endaction", b"// a comment\nendaction"),
-    (
-        "a tree without its bracket",
-        b"x (x (yes",
-        b"x x (yes",
-    ),
+    ("a tree without its bracket", b"x (x (yes", b"x x (yes"),
     (
         "an unknown variable in a tree",
         b"(x (yes (x'",
@@ -161,11 +177,7 @@ const REFUSED: &[Edit] = &[
     ),
     ("another word for `reward`", b"reward", b"rewards"),
     ("two rewards", b"reward", b"reward (1) reward"),
-    (
-        "no reward",
-        b"reward (x (yes (1)) (no (0)))\n",
-        b"",
-    ),
+    ("no reward", b"reward (x (yes (1)) (no (0)))\n", b""),
     (
         "a primed name in the reward",
         b"reward (x (yes",
@@ -188,7 +200,11 @@ const REFUSED: &[Edit] = &[
     ),
     ("no discount", b"discount 0.5\n", b""),
     ("a discount of 1", b"discount 0.5", b"discount 1"),
-    ("a discount of 1.000000", b"discount 0.5", b"discount 1.000000"),
+    (
+        "a discount of 1.000000",
+        b"discount 0.5",
+        b"discount 1.000000",
+    ),
     (
         "a discount with seven digits after the point",
         b"discount 0.5",
@@ -197,7 +213,11 @@ const REFUSED: &[Edit] = &[
     ("a discount in brackets", b"discount 0.5", b"discount (0.5)"),
     ("a discount in letters", b"discount 0.5", b"discount half"),
     ("no tolerance", b"tolerance 0.1\n", b""),
-    ("no number for the tolerance", b"tolerance 0.1", b"tolerance"),
+    (
+        "no number for the tolerance",
+        b"tolerance 0.1",
+        b"tolerance",
+    ),
     (
         "a tolerance with ten digits after the point",
         b"tolerance 0.1",
@@ -262,10 +282,18 @@ const SOLVED: &[Edit] = &[
 #[test]
 fn one_part_changed(rt: HostRuntime) -> Result<(), Fail> {
     for (what, from, to) in REFUSED {
-        assert_refused(&rt, what, &solve(&rt, &edited(rt.alloc(), KEEP, from, to)?)?);
+        assert_refused(
+            &rt,
+            what,
+            &solve(&rt, &edited(rt.alloc(), KEEP, from, to)?)?,
+        );
     }
     for (what, from, to) in SOLVED {
-        assert_solved(&rt, what, &solve(&rt, &edited(rt.alloc(), KEEP, from, to)?)?);
+        assert_solved(
+            &rt,
+            what,
+            &solve(&rt, &edited(rt.alloc(), KEEP, from, to)?)?,
+        );
     }
     assert_refused(&rt, "an empty file", &solve(&rt, b"")?);
     assert_refused(&rt, "blanks alone", &solve(&rt, b" \n\t\r")?);

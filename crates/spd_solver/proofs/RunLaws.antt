@@ -119,4 +119,3 @@ module _ (file bytes : List ℕ) (options : Options) (before now : Seen) (read :
     whole_means took same =
         subst (λ (k : Kind). Means k (solve file options) (finished_status x) before now) (sym (finished_whole x.why x.iterate.residual.r))
         (text_of digest m x.why (told x.iterate), ended, took, same, read.calm)
-

@@ -72,10 +72,23 @@ fn solve<P: Place, K: Sink>(
     Ok(finished(&solution))
 }
 
-/// Runs the command that the words give, on the files of a place, and writes its text to an output.
+/// Runs the command that the words give on the files of a place, writes its text to an output, and says how it ended.
 ///
-/// Nothing is written before the whole result is known. A file is opened once, read to its end and closed.
-/// The words are `solve` and the name of a file, where `-` stands for standard input.
+/// The words are `solve` and the name of a file, where `-` stands for standard input. A file is opened once, read to its end and closed;
+/// nothing is written before the whole result is known. What the clauses say, of every place, output and list of words:
+///
+/// - `headline`: a command that ends with a whole text (`Done`, `TurnLimit`) wrote exactly the text that the definitions give of its file,
+///   which is that of a valid process, and nothing else; and the value and policy in it are optimal up to the residual over one minus the
+///   discount, for every state, course of action and number of steps.
+/// - `means`: what each other kind of end says: a text that was cut off is a front of that text, and the output's count of faults rose; what
+///   is refused has its cause in the file, at the first fault; a file that couldn't be opened or read has its count of faults risen, and
+///   wasn't opened, or was; and with none of these anything was written.
+/// - `complete`: a lawful file of a valid process of at most 4,096 states is solved, unless the outside fails or memory runs out.
+/// - `usage`, `idle`: `Usage` comes exactly where the words are no command, with the first word that can't stand; then nothing is touched.
+/// - `asked`, `closed`, `never_falls`, `holds`, `outputs`, `named`: the place is asked for no file but the command's, what was opened is
+///   closed, no count falls, and all else stays.
+///
+/// Want of memory alone (`Memory`) has no cause in a clause. What rests on a file's bytes holds where the place tells them.
 pub fn solve_run<P: Place, K: Sink>(
     alloc: Global,
     words: &[Word],
@@ -84,25 +97,17 @@ pub fn solve_run<P: Place, K: Sink>(
 ) -> Status
     requires fresh { (name : List ℕ) → (P.inputs place.old).stage name ≡ None }
 
-    // The headline: a job that ends with a whole text wrote the text that the definitions give, and nothing else; for `solve` it is that
-    // of a valid process's result, whose value and policy are optimal up to the residual over one minus the discount.
     ensures headline { OnCommand words.now (λ command. kind_of result ≡ whole → (text : List ℕ)
         × Ends command (P.inputs place.old).holds result text × Took (K.taken out.old) text (K.taken out.new)) }
-
-    // What each kind of end means of the files, of what the output took and of the faults of the outside.
     ensures means { OnCommand words.now (λ command. Means (kind_of result) command result
         (record { inputs = P.inputs place.old; taken = K.taken out.old; faults = K.faults out.old })
         (record { inputs = P.inputs place.new; taken = K.taken out.new; faults = K.faults out.new })) }
-
-    // A command whose files are as they should be is finished, unless the outside fails or memory runs out.
     ensures complete { OnCommand words.now (λ command. Completes (kind_of result) command (P.inputs place.old).holds) }
-
-    // Words that are no command, and they alone, are told by the number of the first that can't stand; nothing is done then.
     ensures usage { (word : ℕ) → (result ≡ Status.Usage word) ↔ IsUsage words.now word }
     ensures idle { (word : ℕ) → IsUsage words.now word →
         (P.inputs place.new ≡ P.inputs place.old) × (K.taken out.new ≡ K.taken out.old) × (K.faults out.new ≡ K.faults out.old) }
 
-    // Whatever the status is, the place is asked for no other file, what was opened is closed, and no count falls.
+    // Whatever the status is.
     ensures asked { (name : List ℕ) → OnCommand words.now (λ command. Reads command name → ⊥) → (P.inputs place.new).stage name ≡ None }
     ensures closed { (name : List ℕ) → (P.inputs place.new).stage name ≢ Some Stage.Open }
     ensures never_falls { NoneFalls (P.inputs place.old).faults (P.inputs place.new).faults }

@@ -26,7 +26,9 @@ pub(crate) struct Solution {
 #[derive(Debug, Drop)]
 pub(crate) enum Unsolved {
     /// It has more than 4,096 states: the first product of the leading variables' numbers of values that passes this.
-    TooManyStates { product: u32 },
+    TooManyStates {
+        product: u32,
+    },
     /// The probabilities of this variable's values after this action at this state don't sum to one. The sum is in units of 10^-12.
     Sum {
         action: Text,

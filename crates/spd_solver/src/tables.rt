@@ -24,7 +24,10 @@ fn value_leaves(alloc: Global, values: &[i128]) -> Result<Vec<Leaf>, AllocError>
 fn action_leaves(alloc: Global, actions: &[u32]) -> Result<Vec<Leaf>, AllocError>
     ensures { IfOk result (λ leaves. leaves.items ≡ map (λ a. Act a) actions.now) }
 {
-    actions.iter().map(|action| Leaf::Act(*action)).collect(alloc)
+    actions
+        .iter()
+        .map(|action| Leaf::Act(*action))
+        .collect(alloc)
 }
 
 /// What a result tells: the reduced diagrams of its tables, and all else as it is.

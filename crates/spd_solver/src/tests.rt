@@ -1,3 +1,4 @@
+//! The public calls, once, with ample memory.
 use crate::{Status, number, solve_run, write_message};
 use spd_edge::{MemIn, MemOut, MemPlace};
 use sqlite_items::Items;
