@@ -1,8 +1,12 @@
 -- Pieces that are written one after another.
 use Rattle.std.proofs.Common.{◌≡◌, ℕ, zero, suc, ◌+◌, ◌<◌, ◌≤◌, List, [], ◌∷◌, ◌++◌, length, take, drop, get_or, Bor, Option, ap, sym, ◌∙◌, subst, arith, append_assoc, append-nil, add-one, refl}
+use Rattle.std.specs.Prelude.{flat_map}
 use Rattle.spd_edge.specs.Told.{Took, TookFront}
 use Rattle.spd_edge.proofs.CallerLemmas.{Took-trans, TookFront-more, TookFront-longer}
-use Rattle.spd_solver.specs.Pieces.{joined}
+
+-- the text of pieces, one after another
+abbrev pub joined : List (Bor (List ℕ)) → List ℕ
+joined pieces = flat_map (λ (piece : Bor (List ℕ)). piece.now) pieces
 
 -- the text of all pieces: of the first k, of the next one, of the others
 joined-split : (pieces : List (Bor (List ℕ))) (k : ℕ) (d : Bor (List ℕ)) → k < length pieces

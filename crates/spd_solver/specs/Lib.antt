@@ -1,6 +1,5 @@
 pub mod Command
 pub mod Message
-pub mod Pieces
 pub mod SmallToken
 pub mod SmallSeen
 pub mod SmallSyntax

@@ -5,19 +5,19 @@ use Rattle.spd_scaled.specs.Units.{units_text}
 use Rattle.spd_solver.specs.declared.status.Status.{Status}
 use Rattle.spd_solver.specs.declared.status.Status.TheVariants.{Done, Usage, OpenFault, ReadFault, TooLong, Refused, TooManyStates, Sum, Range, TurnLimit, WriteFault, Memory}
 
-abbrev pub number_of : Status → ℕ
-number_of Done = 0
-number_of (Usage word) = 2
-number_of (OpenFault name) = 3
-number_of (ReadFault name) = 3
-number_of (TooLong name) = 4
-number_of Refused = 5
-number_of (Sum action var state sum) = 6
-number_of (Range action state value) = 7
-number_of (TurnLimit residual) = 8
-number_of WriteFault = 12
-number_of (TooManyStates product) = 13
-number_of Memory = 14
+abbrev pub status_number : Status → ℕ
+status_number Done = 0
+status_number (Usage word) = 2
+status_number (OpenFault name) = 3
+status_number (ReadFault name) = 3
+status_number (TooLong name) = 4
+status_number Refused = 5
+status_number (Sum action var state sum) = 6
+status_number (Range action state value) = 7
+status_number (TurnLimit residual) = 8
+status_number WriteFault = 12
+status_number (TooManyStates product) = 13
+status_number Memory = 14
 
 -- LF
 abbrev pub newline : List ℕ

@@ -1,7 +1,7 @@
 //! The number and the message of a status.
 ghost use Rattle.std.specs.Prelude.{◌≡◌};
 ghost use Rattle.spd_text.specs.Writing.{Wrote, Counted};
-ghost use Rattle.spd_solver.specs.Message.{number_of, sum_message, range_message, message_of};
+ghost use Rattle.spd_solver.specs.Message.{status_number, sum_message, range_message, message_of};
 
 use crate::pieces::write_pieces;
 use crate::status::Status;
@@ -11,7 +11,7 @@ use spd_scaled::put_units;
 
 /// The exit status of a program that ends so.
 pub fn number(status: &Status) -> u8
-    ensures { result ≡ number_of status.now }
+    ensures { result ≡ status_number status.now }
 {
     match status {
         Status::Done => 0,
