@@ -1,11 +1,11 @@
--- The two halves of a tree at a level, and what tests can be made of halves.
-use Rattle.std.proofs.Common.{◌≡◌, ℕ, ◌+◌, ◌-◌, ◌<◌, ◌≤◌, ◌≢◌, ◌⊎◌, inl, inr, ◌==◌, Bool, true, false, cond, List, [], ◌∷◌, refl, sym, ◌∙◌, subst, arith}
-use Rattle.std.specs.Prelude.{nat_lt}
-use Rattle.std.proofs.lemmas.Bool.Decides.{Decides-eqb, nat_tests}
-use Rattle.spd_nodes.specs.Levels.{levels_of, after, is_first}
-use Rattle.spd_nodes.specs.Trees.{Tree, Ends, Tests, tree_eq, IsFrom, IsAt, IsReduced, CanTest, join, IsNode, InYes, InNo}
-use Rattle.spd_nodes.proofs.TreeLaws.{tree_eq-true, tree_eq-refl}
-use Rattle.spd_apply.specs.Halves.{yes_at, no_at, IsNotBefore, Fits, IsAligned}
+-- The two halves of a tree at a level.
+use Rattle.std.proofs.Common.{◌≡◌, ℕ, ◌+◌, ◌<◌, ◌≤◌, ◌⊎◌, inl, inr, ◌==◌, true, false, List, refl, sym, ◌∙◌, subst, arith}
+use Rattle.std.proofs.lemmas.Bool.{ne_eqb, cases_order}
+use Rattle.std.proofs.lemmas.Bool.Decides.{Decides-eqb}
+use Rattle.spd_nodes.specs.Levels.{after}
+use Rattle.spd_nodes.specs.Trees.{Tree, Ends, Tests, IsFrom, IsAt, IsAtOrPast, IsReduced}
+use Rattle.spd_nodes.proofs.CallerLemmas.{Parts, parts, first0, first-past, level_of-reduced}
+use Rattle.spd_apply.specs.Halves.{yes_at, no_at, IsNotBefore, IsAligned}
 
 -- the halves of a tree at a level that it tests first, if at all
 pub record Splits (ds : List ℕ) (l : ℕ) (t : Tree) : Type 0 where
@@ -17,26 +17,21 @@ pub record Splits (ds : List ℕ) (l : ℕ) (t : Tree) : Type 0 where
 pub eq-refl : (l : ℕ) → (l == l) ≡ true
 eq-refl l = (Decides-eqb l l).1 refl
 
-pub ne-false : (k l : ℕ) → k ≢ l → (k == l) ≡ false
-ne-false k l h = grind (arith, nat_tests)
-
 pub splits-at : (ds : List ℕ) (l : ℕ) (y n : Tree) → IsReduced ds 0 (Tests l y n) → Splits ds l (Tests l y n)
 splits-at ds l y n r =
-    let a : 0 + after ds (l - 0) ≡ after ds l = after0 ds l in
-    let f : IsFrom ds 0 (after ds l) y = rw a at r.3 in
-    let g : IsFrom ds 0 (after ds l) n ⊎ (IsAt (l + 1) n × (l + 1 < after ds l)) = rw a at r.4 in
+    let q : Parts ds l y n = parts ds l y n r in
     record {
-      yes_from = rw (eq-refl l) f;
-      no_fits = rw (eq-refl l) g;
-      yes_reduced = rw (eq-refl l) r.5;
-      no_reduced = rw (eq-refl l) r.6;
+      yes_from = rw (eq-refl l) q.yes_from;
+      no_fits = rw (eq-refl l) q.no_fits;
+      yes_reduced = rw (eq-refl l) q.yes_reduced;
+      no_reduced = rw (eq-refl l) q.no_reduced;
     }
 
 -- a tree past the slot is its own half
 pub splits-past : (ds : List ℕ) (l : ℕ) (t : Tree) → l < after ds l → IsReduced ds 0 t → IsFrom ds 0 (after ds l) t → Splits ds l t
 splits-past ds l (Ends a) h r f = record { yes_from = tt; no_fits = inl tt; yes_reduced = tt; no_reduced = tt }
 splits-past ds l (Tests k y n) h r f =
-    let e : (k == l) ≡ false = ne-false k l (omega arith) in
+    let e : (k == l) ≡ false = ne_eqb k l (omega arith) in
     record {
       yes_from = rw e f;
       no_fits = rw e (inl f);
@@ -45,25 +40,22 @@ splits-past ds l (Tests k y n) h r f =
     }
 
 -- a tree that tests a level first, or is past its slot, has its halves there
-pub splits-fits : (ds : List ℕ) (l : ℕ) (t : Tree) → l < after ds l → IsReduced ds 0 t → Fits ds l t → Splits ds l t
+pub splits-fits : (ds : List ℕ) (l : ℕ) (t : Tree) → l < after ds l → IsReduced ds 0 t → IsAtOrPast ds l t → Splits ds l t
 splits-fits ds l t h r (inl f) = splits-past ds l t h r f
 splits-fits ds l (Ends a) h r (inr f) = absurd f
 splits-fits ds l (Tests k y n) h r (inr f) = subst (λ v. Splits ds v (Tests k y n)) f (splits-at ds k y n r)
 
-pub three : (k l : ℕ) → (k ≡ l) ⊎ (k < l) ⊎ (l < k)
-three k l = grind arith
-
 pub aligned-from : (ds : List ℕ) (e : ℕ) (t u : Tree) → IsReduced ds 0 t → IsReduced ds 0 u → IsFrom ds 0 e t → IsFrom ds 0 e u → IsAligned ds t u
 aligned-from ds e (Ends a) u r s f g = tt
 aligned-from ds e (Tests k y n) (Ends b) r s f g = tt
-aligned-from ds e (Tests k y n) (Tests l v m) r s f g = go (three k l)
+aligned-from ds e (Tests k y n) (Tests l v m) r s f g = go (cases_order k l)
   where
     go : (k ≡ l) ⊎ (k < l) ⊎ (l < k) → IsAligned ds (Tests k y n) (Tests l v m)
     go (inl h) = inl h
     go (inr (inl h)) = inr (inl (h, (first-past ds k l h (first0 ds l g.1) (level_of-reduced ds l v m s), g.1)))
     go (inr (inr h)) = inr (inr (h, (first-past ds l k h (first0 ds k f.1) (level_of-reduced ds k y n r), f.1)))
 
-pub aligned-fits : (ds : List ℕ) (k : ℕ) (t u : Tree) → k < after ds k → IsReduced ds 0 t → IsReduced ds 0 u → Fits ds k t → Fits ds k u → IsAligned ds t u
+pub aligned-fits : (ds : List ℕ) (k : ℕ) (t u : Tree) → k < after ds k → IsReduced ds 0 t → IsReduced ds 0 u → IsAtOrPast ds k t → IsAtOrPast ds k u → IsAligned ds t u
 aligned-fits ds k t u h r s (inl f) (inl g) = aligned-from ds (after ds k) t u r s f g
 aligned-fits ds k (Ends a) u h r s f g = tt
 aligned-fits ds k (Tests i y n) (Ends b) h r s f g = tt

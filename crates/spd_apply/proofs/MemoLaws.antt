@@ -4,7 +4,7 @@ use Rattle.std.specs.Prelude.{Contains}
 use Rattle.spd_cons_core.specs.declared.key.Entry.{Entry}
 use Rattle.spd_nodes.specs.Shown.{Shown, Grows}
 use Rattle.spd_memo.specs.Kept.{KeptAnswers, answer_in, promoted_in, put_in}
-use Rattle.spd_memo.proofs.KeptLaws.{Contains-answer, Contains-promoted_in, Contains-put}
+use Rattle.spd_memo.proofs.CallerLemmas.{Contains-answer, Contains-promoted_in, Contains-put}
 use Rattle.spd_apply.specs.Rules.{Making, IsAnswer, HoldsAnswers}
 
 pub answers-found : {making : Making} {s : Shown} {k : KeptAnswers} → HoldsAnswers making s k → (f g r : Entry) → answer_in k.pairs f g ≡ Some r → IsAnswer making s f g r

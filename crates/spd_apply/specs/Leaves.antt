@@ -33,3 +33,7 @@ pub record AreLeavesOf (sizes : List ℕ) (function : Function) (leaves : List L
   pub all : (s t : List ℕ) → IsState sizes s → IsState sizes t → Contains leaves (function s t)
   pub only : (leaf : Leaf) → Contains leaves leaf → IsTaken sizes function leaf
   pub ascending : AllPairs (λ a b. leaf_before a b ≡ true) leaves
+
+-- Each leaf that one function takes fits each leaf that another one takes.
+pub record EachFit (fits : Leaf → Leaf → Bool) (sizes : List ℕ) (f g : Function) : Type 0 where
+  pub at : (a b : Leaf) → IsTaken sizes f a → IsTaken sizes g b → fits a b ≡ true

@@ -1,13 +1,8 @@
 //! What a diagram's nodes say, by views of them.
-ghost use Rattle.std.specs.Prelude.{◌≡◌, ℕ, IfOk, IsTrue, true};
-ghost use Rattle.spd_nodes.specs.Levels.{slots};
-ghost use Rattle.spd_nodes.specs.Trees.{IsFrom, IsAt};
+ghost use Rattle.std.specs.Prelude.{◌≡◌, true};
 ghost use Rattle.spd_nodes.specs.Shown.{Shown};
-ghost use Rattle.spd_restrict.specs.Primed.{TestsNoPrimed};
-ghost use Rattle.spd_diagram_rows.specs.PlainRoots.{IsPlainRoot};
 
-use spd_nodes::{Forest, Layout, Leaf, Level, Ref, View, reached};
-use std::alloc::{AllocError, Global};
+use spd_nodes::{Forest, Layout, Leaf, Level, Ref, View};
 
 /// The leaf of a diagram at a present and a next state, if at most `most` nodes lead to it.
 pub fn leaf_at<F: Forest>(
@@ -36,61 +31,4 @@ pub fn leaf_at<F: Forest>(
         }
     }
     None
-}
-
-/// Whether a diagram tests plain values alone.
-pub fn is_plain<F: Forest>(alloc: Global, forest: &mut F, r: Ref) -> Result<bool, AllocError>
-    requires { (F.shows forest.old).knows r ≡ true }
-    ensures same { F.shows forest.new ≡ F.shows forest.old }
-    ensures ok { IfOk result (λ b. IsTrue b → TestsNoPrimed (F.shows forest.old).sizes ((F.shows forest.old).tree r)) }
-{
-    let refs = reached(alloc, forest, r)?;
-    for q in refs.as_slice() {
-        if !is_plain_root(forest, *q) {
-            return Ok(false);
-        }
-    }
-    Ok(true)
-}
-
-/// Whether the root of a diagram is a leaf or the test of a plain value.
-fn is_plain_root<F: Forest>(forest: &mut F, q: Ref) -> bool
-    requires { (F.shows forest.old).knows q ≡ true }
-    ensures same { F.shows forest.new ≡ F.shows forest.old }
-    ensures plain { IsTrue result → IsPlainRoot (F.shows forest.old) q }
-{
-    match forest.view(q) {
-        View::Leaf(_) => true,
-        View::Test { level, .. } => {
-            let (_, primed, _) = forest.layout().what(level);
-            !primed
-        }
-    }
-}
-
-/// Whether the root of a diagram is a leaf or a test of a first value from level `end` on.
-pub fn is_from<F: Forest>(forest: &mut F, r: Ref, end: u16) -> bool
-    requires { (F.shows forest.old).knows r ≡ true }
-    ensures same { F.shows forest.new ≡ F.shows forest.old }
-    ensures from { IsTrue result → IsFrom (slots (F.shows forest.old).sizes) 0 end ((F.shows forest.old).tree r) }
-{
-    match forest.view(r) {
-        View::Leaf(_) => true,
-        View::Test { level, .. } => {
-            let (_, _, value) = forest.layout().what(level);
-            end <= level.0 && value == 0
-        }
-    }
-}
-
-/// Whether the root of a diagram tests this level.
-pub fn is_at<F: Forest>(forest: &mut F, r: Ref, level: u16) -> bool
-    requires { (F.shows forest.old).knows r ≡ true }
-    ensures same { F.shows forest.new ≡ F.shows forest.old }
-    ensures at { IsTrue result → IsAt level ((F.shows forest.old).tree r) }
-{
-    match forest.view(r) {
-        View::Leaf(_) => false,
-        View::Test { level: root, .. } => root.0 == level,
-    }
 }

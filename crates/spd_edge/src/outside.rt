@@ -1,4 +1,4 @@
-//! The traits of the outside, and its faults.
+//! The traits of the outside, its faults, and how far a place came with a name.
 ghost use Rattle.std.specs.Prelude.{◌≡◌, ℕ, ◌^◌, ◌<◌, ◌≤◌, List, [], Option, None, Some, length, take, IfOk, IfSome, OnOk, OnErr};
 ghost use Rattle.spd_edge.specs.Counts.{AllInRange, NoneFalls, Rose};
 ghost use Rattle.spd_edge.specs.Direction.{AfterOpen, Closes, Direction};

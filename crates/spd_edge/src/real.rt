@@ -1,6 +1,6 @@
 //! The place of the system: its files and standard streams. It tells no bytes, and is the edge that is trusted.
-ghost use Rattle.std.specs.Prelude.{◌≡◌, ◌^◌, ◌<◌, ◌≤◌, ℕ, List, [], None, Some, IfOk, OnOk, OnErr, IfErr};
-ghost use Rattle.spd_edge.specs.Counts.{AllInRange, NoneFalls, counted};
+ghost use Rattle.std.specs.Prelude.{◌≡◌, ◌^◌, ◌<◌, ℕ, List, [], None, Some, IfOk, IsErr, OnOk, OnErr, IfErr};
+ghost use Rattle.spd_edge.specs.Counts.{NoneFalls, counted};
 ghost use Rattle.spd_edge.specs.Direction.{Closes, staged};
 ghost use Rattle.spd_edge.specs.declared.outside.Open.TheVariants as Open;
 ghost use Rattle.spd_edge.specs.declared.outside.Stage.TheVariants as Stage;
@@ -134,6 +134,7 @@ impl RealDirection {
         ensures ok { IfOk result (λ stream. opened ≡ Ok stream) }
         ensures opened { OnOk result (shown_by self.new ≡ staged (shown_by self.old) name.now Stage.Open) }
         ensures err { IfErr result (λ e. e ≡ Open.Failed) }
+        ensures not_opened { OnErr result (IsErr opened) }
         ensures failed { OnErr result (shown_by self.new ≡ record (shown_by self.old) { faults = λ other. counted ((shown_by self.old).faults other) 1 }) }
     {
         match opened {

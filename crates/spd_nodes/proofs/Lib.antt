@@ -1,3 +1,4 @@
+pub mod CallerLemmas
 pub mod KeyLaws
 pub mod LayoutLaws
 pub mod MadeLaws
@@ -10,3 +11,5 @@ pub mod StoreLaws
 pub mod TestLaws
 pub mod TreeLaws
 pub mod ValueLaws
+pub mod KnownTreeLaws
+pub mod GroveLaws

@@ -7,7 +7,7 @@ use Rattle.spd_nodes.specs.Trees.{Tree, IsFrom, IsReduced, join}
 use Rattle.spd_nodes.specs.States.{Function, test_tree, test_trees, function_of, Agree}
 use Rattle.spd_nodes.specs.Shown.{Shown, IsSound, KnowsAs, StandsFor, Faults, FaultsAt, MakesOnly, MakesTree, MakesAmong, MakesDiagram}
 use Rattle.spd_nodes.proofs.StateLaws.{positive-slots, test_tree-value, test_tree-agree}
-use Rattle.spd_nodes.proofs.ShownLaws.{Within, within-one, grows-then, makes-within, makes-then, faults-within}
+use Rattle.spd_nodes.proofs.ShownLaws.{Within, within-one, grows-none, grows-then, makes-none, makes-within, makes-then, faults-within}
 use Rattle.spd_nodes.proofs.TestLaws.{in-yes, in-no}
 
 pub within-yes : (l : ℕ) (y n : Tree) → Within (y ∷ []) (join l y n ∷ [])
@@ -92,4 +92,21 @@ among-then {s = s} {t = t} {v = v} {g = g} {nodes = nodes} {r = r} w m n = recor
   ok = n.ok;
   makes = makes-then m.sound n.grows m.makes (makes-within w (subst (λ (z : List ℕ). MakesOnly t v (test_tree z g ∷ [])) m.grows.sizes n.makes));
   fault = if_err-map (λ e. FaultsAt e v (g ∷ [])) (λ e. FaultsAt e v nodes) (λ e q. faults-within e v (subst (λ (z : List ℕ). Within (test_tree z g ∷ []) (test_trees z nodes)) (sym (n.grows.sizes ∙ m.grows.sizes)) w) q) r n.fault;
+}
+
+-- a call that made nothing new: it knew the diagram
+pub makes_among-known : (s : Shown) → IsSound s → (r : Entry) (f : Function) (nodes : List Function) → StandsFor s r f → MakesAmong s s f nodes (Ok r)
+makes_among-known s o r f nodes k = record { sound = o; grows = grows-none s; ok = k; makes = makes-none s (test_trees s.sizes nodes); fault = tt }
+
+-- what failed on the way to one function failed on the way to another one
+pub among-fails : {s t : Shown} {f g : Function} {nodes : List Function} (e : StoreFault) → MakesAmong s t f nodes (Err e) → MakesAmong s t g nodes (Err e)
+among-fails e m = record { sound = m.sound; grows = m.grows; ok = tt; makes = m.makes; fault = m.fault }
+
+pub among-agrees : {s t : Shown} {f g : Function} {nodes : List Function} {r : Result Entry StoreFault} → IsSound s → Agree s.sizes f g → MakesAmong s t f nodes r → MakesAmong s t g nodes r
+among-agrees {s = s} {t = t} {f = f} {g = g} {r = r} o same m = record {
+  sound = m.sound;
+  grows = m.grows;
+  ok = if_ok-map (λ q. StandsFor t q f) (λ q. StandsFor t q g) (agree-stands s t o f g same m.grows.sizes) r m.ok;
+  makes = m.makes;
+  fault = m.fault;
 }

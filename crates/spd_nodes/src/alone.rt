@@ -67,7 +67,8 @@ impl Alone {
     }
 }
 
-fn key_of(leaf: Leaf) -> Key
+/// The key of a leaf.
+pub(crate) fn key_of(leaf: Leaf) -> Key
     ensures { result ≡ leaf_key leaf }
 {
     match leaf {
@@ -77,7 +78,8 @@ fn key_of(leaf: Leaf) -> Key
     }
 }
 
-fn view_of(key: Key) -> View
+/// What a key is seen as.
+pub(crate) fn view_of(key: Key) -> View
     ensures { result ≡ key_view key }
 {
     match key {

@@ -4,17 +4,16 @@ use Rattle.std.specs.Prelude.{nat_lt}
 use Rattle.std.proofs.lemmas.Bool.Decides.{Decides-eqb, nat_tests}
 use Rattle.spd_cons_core.specs.declared.key.Entry.{Entry}
 use Rattle.spd_nodes.specs.declared.leaf.Leaf.{Leaf}
-use Rattle.spd_nodes.specs.Levels.{slots, slot_of, level_at}
+use Rattle.spd_nodes.specs.Levels.{slots, slot_of, level_at, IsSlot}
 use Rattle.spd_nodes.specs.Trees.{Tree, Ends, Tests, value_at, IsFrom, IsReduced}
 use Rattle.spd_model.specs.States.{IsState}
 use Rattle.spd_nodes.specs.States.{point, function_of, Agree}
 use Rattle.spd_nodes.specs.Shown.{Shown, IsSound, IsWhole, meaning}
-use Rattle.spd_nodes.proofs.RankLaws.{rank-view}
-use Rattle.spd_nodes.proofs.StateLaws.{IsState-point}
 use Rattle.spd_apply.specs.declared.rule.Below.TheVariants as B
 use Rattle.spd_apply.specs.Rules.{Making, MayMeet, PlansBelow, PlansTest}
-use Rattle.spd_restrict.specs.Restricted.{restricted, cofactored, IsSlot, IsUpTo, MayRestrict}
-use Rattle.spd_restrict.proofs.CofactorLaws.{Parts, parts, Good, good-cofactored, can-cofactor, value_at-cofactored, up-to-from, up-to-at}
+use Rattle.spd_restrict.specs.Restricted.{restricted, cofactored, IsUpTo, MayRestrict}
+use Rattle.spd_nodes.proofs.CallerLemmas.{IsTreeFor, Parts, parts, IsState-point, rank-view}
+use Rattle.spd_restrict.proofs.CofactorLaws.{Good, good-cofactored, can-cofactor, value_at-cofactored, up-to-from, up-to-at}
 
 module _ (first end value : ℕ) (s : Shown) (o : IsSound s) (f g : Entry) (kf : s.knows f ≡ true) (may : MayRestrict first end value s.sizes (s.tree f)) where
   abbrev ds : List ℕ
@@ -25,9 +24,6 @@ module _ (first end value : ℕ) (s : Shown) (o : IsSound s) (f g : Entry) (kf :
 
   abbrev may-meet : Tree → Tree → Type 0
   may-meet t u = MayRestrict first end value s.sizes t
-
-  pub plans-leaf : (a : Leaf) → s.tree f ≡ Ends a → PlansBelow making may-meet s f g (B.Known f)
-  plans-leaf a e = record { is = rw e refl; goes = kf; smaller = omega arith }
 
   module _ (l : ℕ) (y n : Entry) (e : s.tree f ≡ Tests l (s.tree y) (s.tree n)) (ky : s.knows y ≡ true) (kn : s.knows n ≡ true) where
     reduced : IsReduced ds 0 (Tests l (s.tree y) (s.tree n))
@@ -64,19 +60,6 @@ module _ (first end value : ℕ) (s : Shown) (o : IsSound s) (f g : Entry) (kf :
           yes_smaller = omega (arith, smaller.0);
           no_smaller = omega (arith, smaller.1);
         }
-
-    pub plans-past : first ≤ l → end ≤ l → PlansBelow making may-meet s f g (B.Known f)
-    plans-past lo hi =
-        let t : nat_lt l first ≡ false = grind (arith, nat_tests) in
-        let u : nat_lt l end ≡ false = grind (arith, nat_tests) in
-        record { is = rw (e, t, u) refl; goes = kf; smaller = omega arith }
-
-    pub plans-yes : first ≤ l → l < end → l ≡ first + value → PlansBelow making may-meet s f g (B.Known y)
-    plans-yes lo hi at =
-        let t : nat_lt l first ≡ false = grind (arith, nat_tests) in
-        let u : nat_lt l end ≡ true = grind (arith, nat_tests) in
-        let v : (l == first + value) ≡ true = (Decides-eqb l (first + value)).1 at in
-        record { is = rw (e, t, u, v) refl; goes = ky; smaller = omega arith }
 
     pub plans-no : first ≤ l → l < end → l ≢ first + value → PlansBelow making may-meet s f g (B.Pair n n)
     plans-no lo hi differ =
@@ -117,17 +100,16 @@ module _ (first end value var : ℕ) (primed : Bool) (s : Shown) (o : IsSound s)
   good : Good (slots s.sizes) (slot_of var primed) first end is value (s.tree f)
   good = good-cofactored (slots s.sizes) (slot_of var primed) first end is value (s.tree f) (o.reduced f kf) up-whole
 
-  pub fixed-reduced : IsReduced (slots s.sizes) 0 (cofactored first end value (s.tree f))
-  fixed-reduced = good.reduced
-
-  pub fixed-whole : IsFrom (slots s.sizes) 0 0 (cofactored first end value (s.tree f))
-  fixed-whole = good.from 0 wf
-
-  pub fixed-value : Agree s.sizes (function_of s.sizes (cofactored first end value (s.tree f))) (restricted var primed value (meaning s f))
-  fixed-value = record {
-    at = λ x y i j.
-        value_at-cofactored (slots s.sizes) (slot_of var primed) first end is value (s.tree f) (point x y) (o.reduced f kf) up-whole (IsState-point s.sizes x y i j)
-        ∙ split primed x y i j;
+  -- what is made is the tree of the function with the value held
+  pub fixed-tree : IsTreeFor s (cofactored first end value (s.tree f)) (restricted var primed value (meaning s f))
+  fixed-tree = record {
+    reduced = good.reduced;
+    whole = good.from 0 wf;
+    value = record {
+      at = λ x y i j.
+          value_at-cofactored (slots s.sizes) (slot_of var primed) first end is value (s.tree f) (point x y) (o.reduced f kf) up-whole (IsState-point s.sizes x y i j)
+          ∙ split primed x y i j;
+    };
   }
     where
       split : (b : Bool) (x y : List ℕ) → IsState s.sizes x → IsState s.sizes y → value_at (slots s.sizes) 0 (s.tree f) (set (point x y) (slot_of var b) value) ≡ restricted var b value (meaning s f) x y
