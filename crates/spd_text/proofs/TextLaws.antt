@@ -1,8 +1,8 @@
 -- The text of a result from its pieces.
-use Rattle.std.proofs.Common.{◌≡◌, ℕ, zero, suc, ◌+◌, ◌<◌, ◌≤◌, List, [], ◌∷◌, ◌++◌, length, map, flat_map, take, drop, get_or, Bor, refl, ap, sym, ◌∙◌, subst, arith, append_assoc, append-nil, codes, decimal, length-append, ℤ}
+use Rattle.std.proofs.Common.{◌≡◌, ℕ, ◌+◌, ◌<◌, ◌≤◌, List, [], ◌∷◌, ◌++◌, length, map, flat_map, take, drop, get_or, Bor, refl, ap, sym, ◌∙◌, arith, append_assoc, append-nil, codes, decimal, ℤ}
 use Rattle.std.specs.Prelude.{All}
 use Rattle.std.specs.List.{join_with_byte, enumerate_from, zip}
-use Rattle.std.proofs.lemmas.List.{take_more, drop_more, take-append-drop, take_all, map-append, get_or-map, length-map, length-take-le, map_push}
+use Rattle.std.proofs.lemmas.List.{take_more, take-append-drop, take_all, map-append, get_or-map, length-map, length-take-le, map_push}
 use Rattle.std.proofs.lemmas.List.Elements.{All-head, All-tail}
 use Rattle.std.proofs.lemmas.Grind.{flat_map-append}
 use Rattle.std.proofs.lemmas.Slice.Zip.{get_or-zip, length-zip}
@@ -14,51 +14,50 @@ use mir.Val.{to_z, of_z}
 use Rattle.spd_scaled.specs.Units.{units_text}
 use Rattle.spd_model.specs.declared.process.Var.{Var}
 use Rattle.spd_model.specs.declared.Why.{Why}
-use Rattle.spd_model.specs.declared.Side.{Side}
 use Rattle.spd_model.specs.Process.{Process}
-use Rattle.spd_model.specs.Reduced.{Node, leaf, branch}
+use Rattle.spd_model.specs.Reduced.{Node}
 use Rattle.spd_model.specs.ResultText.{line, units, why_text, side_text, action_name, var_name, value_name, state_words, node_line, nodes_text, place_line, text_of}
 use Rattle.spd_nodes.specs.declared.leaf.Leaf.{Leaf}
 use Rattle.spd_nodes.specs.declared.leaf.Leaf.TheVariants.{Num, Pair, Act}
 use Rattle.spd_frozen.specs.declared.node.Node.{Node as StoredNode}
 use Rattle.spd_frozen.specs.declared.iterate.Iterate.{Iterate}
 use Rattle.spd_frozen.specs.Nodes.{shown, all_shown}
-use Rattle.spd_frozen.specs.Fits.{HasLeaf, HasLeaves, IsValue, IsChoice, FitsModel}
+use Rattle.spd_frozen.specs.Fits.{IsValue, IsChoice, FitsModel}
 use Rattle.spd_frozen.specs.Told.{with_leaf, number_of, action_of, told}
-use Rattle.spd_text.specs.inner.Pieces.{joined, spaced, leaf_text}
-use Rattle.spd_text.specs.inner.Parts.{head_text, end_words, end_text, top_text}
+use Rattle.spd_text.specs.inner.Pieces.{text_of_pieces, spaced, leaf_text}
+use Rattle.spd_text.specs.inner.Parts.{head_text, end_words, top_text}
 
 -- one piece more
-pub joined-more : (pieces : List (Bor (List ℕ))) (i : ℕ) (d : Bor (List ℕ)) → i < length pieces → joined (take i pieces) ++ (get_or pieces i d).now ≡ joined (take (i + 1) pieces)
-joined-more pieces i d h =
-    sym (ap joined (take_more pieces i d h) ∙ flat_map-append (λ (p : Bor (List ℕ)). p.now) (take i pieces) (get_or pieces i d ∷ [])
-      ∙ ap (λ l. joined (take i pieces) ++ l) (append-nil (get_or pieces i d).now))
+pub pieces-more : (pieces : List (Bor (List ℕ))) (i : ℕ) (d : Bor (List ℕ)) → i < length pieces → text_of_pieces (take i pieces) ++ (get_or pieces i d).now ≡ text_of_pieces (take (i + 1) pieces)
+pieces-more pieces i d h =
+    sym (ap text_of_pieces (take_more pieces i d h) ∙ flat_map-append (λ (p : Bor (List ℕ)). p.now) (take i pieces) (get_or pieces i d ∷ [])
+    ∙ ap (λ l. text_of_pieces (take i pieces) ++ l) (append-nil (get_or pieces i d).now))
 
 -- pieces before, one piece, and those behind it
-pub joined-split : (pieces : List (Bor (List ℕ))) (i : ℕ) (d : Bor (List ℕ)) → i < length pieces
-    → joined pieces ≡ (joined (take i pieces) ++ (get_or pieces i d).now) ++ joined (drop (i + 1) pieces)
-joined-split pieces i d h =
-    ap joined (sym (take-append-drop (i + 1) pieces)) ∙ flat_map-append (λ (p : Bor (List ℕ)). p.now) (take (i + 1) pieces) (drop (i + 1) pieces)
-    ∙ ap (λ l. l ++ joined (drop (i + 1) pieces)) (sym (joined-more pieces i d h))
+pub pieces-split : (pieces : List (Bor (List ℕ))) (i : ℕ) (d : Bor (List ℕ)) → i < length pieces
+    → text_of_pieces pieces ≡ (text_of_pieces (take i pieces) ++ (get_or pieces i d).now) ++ text_of_pieces (drop (i + 1) pieces)
+pieces-split pieces i d h =
+    ap text_of_pieces (sym (take-append-drop (i + 1) pieces)) ∙ flat_map-append (λ (p : Bor (List ℕ)). p.now) (take (i + 1) pieces) (drop (i + 1) pieces)
+    ∙ ap (λ l. l ++ text_of_pieces (drop (i + 1) pieces)) (sym (pieces-more pieces i d h))
 
 -- no piece
 abbrev pub no_piece : Bor (List ℕ)
 no_piece = record { ref_ptr = (0, 0); now = [] }
 
-pub joined-all : (pieces : List (Bor (List ℕ))) (i : ℕ) → length pieces ≤ i → joined (take i pieces) ≡ joined pieces
-joined-all pieces i h = ap joined (take_all i pieces h)
+pub pieces-all : (pieces : List (Bor (List ℕ))) (i : ℕ) → length pieces ≤ i → text_of_pieces (take i pieces) ≡ text_of_pieces pieces
+pieces-all pieces i h = ap text_of_pieces (take_all i pieces h)
 
 -- words after the first
-pub joined-spaced : (w : List ℕ) (ws : List (List ℕ)) → join_with_byte 32 (w ∷ ws) ≡ w ++ spaced ws
-joined-spaced w [] = sym (append-nil w)
-joined-spaced w (v ∷ ws) = ap (λ (t : List ℕ). w ++ (32 ∷ t)) (joined-spaced v ws)
+pub words-spaced : (w : List ℕ) (ws : List (List ℕ)) → join_with_byte 32 (w ∷ ws) ≡ w ++ spaced ws
+words-spaced w [] = sym (append-nil w)
+words-spaced w (v ∷ ws) = ap (λ (t : List ℕ). w ++ (32 ∷ t)) (words-spaced v ws)
 
 pub spaced-append : (xs ys : List (List ℕ)) → spaced (xs ++ ys) ≡ spaced xs ++ spaced ys
 spaced-append xs ys = flat_map-append (λ (word : List ℕ). 32 ∷ word) xs ys
 
 pub head-is : (digest why turn residual : List ℕ)
     → (codes "spd result 2" ++ 10 ∷ codes "model ") ++ (digest ++ ((10 ∷ codes "status ") ++ (why ++ ((10 ∷ codes "turn ") ++ (turn ++ ((10 ∷ codes "residual ") ++ (residual ++ ((10 ∷ codes "at") ++ []))))))))
-      ≡ head_text digest why turn residual
+    ≡ head_text digest why turn residual
 head-is digest why turn residual =
     regroup-head (codes "spd result 2") (codes "model ") digest (codes "status ") why (codes "turn ") turn (codes "residual ") residual (codes "at") (10 ∷ [])
   where
@@ -85,7 +84,7 @@ leaf-is number text = simp append_assoc
 -- the line of a branch
 pub branch-is : (number name : List ℕ) (kids : List (List ℕ))
     → ((number ++ ((32 ∷ codes "branch ") ++ (name ++ []))) ++ spaced kids) ++ 10 ∷ [] ≡ line (number ∷ codes "branch" ∷ name ∷ kids)
-branch-is number name kids = rw (joined-spaced number (codes "branch" ∷ name ∷ kids)) (simp (append_assoc, append-nil))
+branch-is number name kids = rw (words-spaced number (codes "branch" ∷ name ∷ kids)) (simp (append_assoc, append-nil))
 
 -- the line before the nodes of a diagram
 pub heading-is : (word count : List ℕ) → word ++ ((32 ∷ []) ++ (count ++ ((10 ∷ []) ++ []))) ≡ line (word ∷ count ∷ [])
@@ -97,7 +96,7 @@ pub kids-more : (kids : List ℕ) (i : ℕ) (number : List ℕ) → i < length k
 kids-more kids i number h e =
     ap (λ (t : List ℕ). spaced (map decimal (take i kids)) ++ (32 ∷ (t ++ []))) e
     ∙ sym (ap (λ (l : List ℕ). spaced (map decimal l)) (take_more kids i 0 h) ∙ ap spaced (map_push decimal (take i kids) (get_or kids i 0))
-      ∙ spaced-append (map decimal (take i kids)) (decimal (get_or kids i 0) ∷ []))
+    ∙ spaced-append (map decimal (take i kids)) (decimal (get_or kids i 0) ∷ []))
 
 -- the kids before, one, and those behind it
 pub kids-split : (kids : List ℕ) (i : ℕ) → spaced (map decimal kids) ≡ spaced (map decimal (take i kids)) ++ spaced (map decimal (drop i kids))
@@ -124,15 +123,15 @@ module _ (text : Leaf → List ℕ) (name : ℕ → List ℕ) where
       let before = all_shown (take i items) in
       let long : 0 + length before ≡ i = omega (arith, length-map (take i items) shown, length-take-le i items (omega arith)) in
       sym (ap (λ (l : List StoredNode). lines_from 0 (all_shown l)) (take_more items i node h ∙ ap (λ (n : StoredNode). take i items ++ n ∷ []) (sym e))
-        ∙ ap (lines_from 0) (map_push shown (take i items) node) ∙ lines-append 0 before (shown node ∷ [])
-        ∙ ap (λ (k : ℕ). lines_from 0 before ++ (node_line text name k (shown node) ++ [])) long ∙ ap (λ l. lines_from 0 before ++ l) (append-nil (node_line text name i (shown node))))
+      ∙ ap (lines_from 0) (map_push shown (take i items) node) ∙ lines-append 0 before (shown node ∷ [])
+      ∙ ap (λ (k : ℕ). lines_from 0 before ++ (node_line text name k (shown node) ++ [])) long ∙ ap (λ l. lines_from 0 before ++ l) (append-nil (node_line text name i (shown node))))
 
   -- the nodes before, and those behind
   pub lines-split : (items : List StoredNode) (i : ℕ) → i ≤ length items → (rest : List ℕ) × (lines_from 0 (all_shown items) ≡ lines_from 0 (all_shown (take i items)) ++ rest)
   lines-split items i h = (
     lines_from (0 + length (all_shown (take i items))) (all_shown (drop i items)),
     ap (λ (l : List StoredNode). lines_from 0 (all_shown l)) (sym (take-append-drop i items)) ∙ ap (lines_from 0) (map-append shown (take i items) (drop i items))
-    ∙ lines-append 0 (all_shown (take i items)) (all_shown (drop i items)),
+        ∙ lines-append 0 (all_shown (take i items)) (all_shown (drop i items)),
   )
 
   -- the text of a diagram from the lines of its nodes
@@ -205,7 +204,7 @@ place-is : (words : List (List ℕ)) (side action error : List ℕ)
     → (codes "at" ++ spaced words) ++ (spaced (side ∷ action ∷ []) ++ 10 ∷ [] ++ error) ≡ line ((codes "at" ∷ words) ++ side ∷ action ∷ []) ++ error
 place-is words side action error =
     regroup-place (codes "at") (spaced words) (32 ∷ []) side action (10 ∷ []) error
-    ∙ sym (ap (λ (t : List ℕ). (t ++ 10 ∷ []) ++ error) (joined-spaced (codes "at") (words ++ side ∷ action ∷ []) ∙ ap (λ (t : List ℕ). codes "at" ++ t) (spaced-append words (side ∷ action ∷ []))))
+    ∙ sym (ap (λ (t : List ℕ). (t ++ 10 ∷ []) ++ error) (words-spaced (codes "at") (words ++ side ∷ action ∷ []) ∙ ap (λ (t : List ℕ). codes "at" ++ t) (spaced-append words (side ∷ action ∷ []))))
   where
     regroup-place : (at ws p s a n e : List ℕ) → (at ++ ws) ++ ((((p ++ s) ++ ((p ++ a) ++ [])) ++ n) ++ e) ≡ ((at ++ (ws ++ ((p ++ s) ++ ((p ++ a) ++ [])))) ++ n) ++ e
     regroup-place at ws p s a n e = simp (append_assoc, append-nil)
@@ -215,11 +214,11 @@ regroup : (a b c d e at state end value policy last place error : List ℕ) → 
 regroup a b c d e at state end value policy last place error h =
     let inner : at ++ (state ++ end) ≡ place ++ error = sym (append_assoc at state end) ∙ h in
     simp append_assoc (ap (λ (t : List ℕ). a ++ (b ++ (c ++ (d ++ (e ++ t))))) (sym (append_assoc at state (end ++ (value ++ (policy ++ last))))
-      ∙ sym (append_assoc (at ++ state) end (value ++ (policy ++ last))) ∙ ap (λ (t : List ℕ). t ++ (value ++ (policy ++ last))) h ∙ append_assoc place error (value ++ (policy ++ last))))
+    ∙ sym (append_assoc (at ++ state) end (value ++ (policy ++ last))) ∙ ap (λ (t : List ℕ). t ++ (value ++ (policy ++ last))) h ∙ append_assoc place error (value ++ (policy ++ last))))
 
 pub whole-is : (digest : List ℕ) (m : Process) (why : Why) (x : Iterate) → FitsModel m x
     → ((top_text digest m why x ++ nodes_text (leaf_text m) (var_name m) (codes "value") x.value) ++ nodes_text (leaf_text m) (var_name m) (codes "policy") x.policy) ++ line (codes "end" ∷ [])
-      ≡ text_of digest m why (told x)
+    ≡ text_of digest m why (told x)
 whole-is digest m why x fits =
     let value = nodes_text-changed number_of (leaf_text m) units (var_name m) IsValue (value-leaf m) (codes "value") x.value fits.values in
     let policy = nodes_text-changed action_of (leaf_text m) (action_name m) (var_name m) (IsChoice (length m.actions)) (choice-leaf m (length m.actions)) (codes "policy") x.policy fits.choices in
@@ -227,4 +226,4 @@ whole-is digest m why x fits =
     ap (λ (t : List ℕ). ((top_text digest m why x ++ t) ++ nodes_text (leaf_text m) (var_name m) (codes "policy") x.policy) ++ line (codes "end" ∷ [])) value
     ∙ ap (λ (t : List ℕ). ((top_text digest m why x ++ nodes_text units (var_name m) (codes "value") (map (with_leaf number_of) x.value)) ++ t) ++ line (codes "end" ∷ [])) policy
     ∙ regroup (line (codes "spd result 2" ∷ [])) (line (codes "model" ∷ encode_lower digest ∷ [])) (line (codes "status" ∷ why_text why ∷ [])) (line (codes "turn" ∷ decimal x.turn ∷ []))
-        (line (codes "residual" ∷ units x.residual.r ∷ [])) (codes "at") (spaced (state_words m x.residual.at)) _ _ _ (line (codes "end" ∷ [])) (place_line m (told x).place) (line (codes "error" ∷ units x.error ∷ [])) place
+    (line (codes "residual" ∷ units x.residual.r ∷ [])) (codes "at") (spaced (state_words m x.residual.at)) _ _ _ (line (codes "end" ∷ [])) (place_line m (told x).place) (line (codes "error" ∷ units x.error ∷ [])) place

@@ -1,8 +1,8 @@
 -- Texts that are written one after another, by way of bytes that wait.
 use Rattle.spd_edge.specs.declared.outside.Failed.{Failed}
 use Rattle.std.proofs.lemmas.List.{take_at}
-use Rattle.std.proofs.Common.{◌≡◌, ◌<◌, ◌≤◌, ℕ, length, take, drop, take-append-drop, length-append, arith, List, [], ◌∷◌, ◌++◌, Option, None, Some, Ok, Err, Result, refl, sym, ap, ◌∙◌, subst, append_assoc, append-nil}
-use Rattle.std.specs.Prelude.{option_map, OnOk, OnErr, IsOk, IsErr}
+use Rattle.std.proofs.Common.{◌≡◌, ◌<◌, ◌≤◌, ℕ, length, take, drop, take-append-drop, length-append, arith, List, [], ◌++◌, Ok, Err, Result, refl, sym, ap, ◌∙◌, subst, append_assoc, append-nil}
+use Rattle.std.specs.Prelude.{OnOk, OnErr, IsOk, IsErr}
 use Rattle.spd_edge.specs.Counts.{Rose}
 use Rattle.spd_edge.specs.Told.{Took, TookFront}
 use Rattle.spd_edge.proofs.CallerLemmas.{Took-trans, Took-nothing}
@@ -89,7 +89,6 @@ writes-whole a b text z (Ok x) e h =
     let all : text ≡ h.front = h.split ∙ ap (λ l. h.front ++ l) (sym h.kept ∙ e) ∙ append-nil h.front in
     subst (λ (t : List ℕ). Took a.taken t b.taken) (sym all) h.took
 writes-whole a b text z (Err f) e h = writes-front a b text z f h
-
 
 -- what is returned where a text failed, with more behind it
 pub writes-exit : {S T E : Type 0} (a b : Shown) (v w z xs whole more : List ℕ) (e : E) (r : Result T E) → IsErr r → whole ≡ xs ++ more → Writes {T = S} a v xs (Err e) b w → Writes a v whole r b z

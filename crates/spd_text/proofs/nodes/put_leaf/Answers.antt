@@ -1,7 +1,7 @@
 use Rattle.std.specs.Prelude.{FitsSigned}
 use Rattle.std.specs.Int.{w128}
 use Rattle.spd_text.proofs.TextLaws.{number-is}
-use Rattle.std.proofs.Common.{rules, take, ◌∷◌, [], List, ℕ, codes, refl, sym, ap, ◌∙◌}
+use Rattle.std.proofs.Common.{rules, take, ◌∷◌, [], List, ℕ, codes, sym, ap, ◌∙◌}
 use Rattle.spd_model.specs.ResultText.{line}
 use Rattle.spd_text.specs.inner.Pieces.{leaf_text}
 use Rattle.spd_text.proofs.WritingLaws.{writes-as}

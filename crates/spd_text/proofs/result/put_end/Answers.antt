@@ -1,4 +1,4 @@
-use Rattle.std.proofs.Common.{◌≡◌, List, ℕ, take, rules, sym, ap, ◌∙◌}
+use Rattle.std.proofs.Common.{◌≡◌, take, rules}
 use Rattle.std.specs.Prelude.{FitsSigned}
 use Rattle.std.specs.Int.{w128}
 use Rattle.spd_model.specs.ResultText.{units, side_text, action_name}
@@ -17,5 +17,5 @@ returns g c =
     let fits : FitsSigned w128 c.args.error = search rules in
     let number : error ≡ units c.args.error = number-is c.args.error error fits c.put_units-len.ensures.text in
     let same : end_words c.side_word-side.result.now c.action_name-action.result.now error ≡ end_words (side_text r.side) (action_name m r.action) (units c.args.error) =
-        λ i. end_words (side i) (action i) (number i) in
+    λ i. end_words (side i) (action i) (number i) in
     writes-as _ _ _ _ _ _ _ same c.put_words.ensures

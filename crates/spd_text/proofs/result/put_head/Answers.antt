@@ -1,6 +1,6 @@
 use Rattle.std.specs.Prelude.{FitsSigned}
 use Rattle.std.specs.Int.{w128}
-use Rattle.std.proofs.Common.{rules, ◌≡◌, List, ℕ, take, decimal, refl, sym, ap, ◌∙◌}
+use Rattle.std.proofs.Common.{rules, ◌≡◌, take, decimal, ◌∙◌}
 use Rattle.hex.specs.Hex.{encode_lower}
 use Rattle.spd_model.specs.ResultText.{units, why_text}
 use Rattle.spd_text.specs.inner.Parts.{head_text}
@@ -18,6 +18,6 @@ returns g c =
     let fits : FitsSigned w128 x.residual.r = search rules in
     let number : residual ≡ units x.residual.r = number-is x.residual.r residual fits c.put_units-len.ensures.text in
     let same : head_text c.hexadecimal-digest.result c.why_word.result.now c.as_bytes.result.now residual
-          ≡ head_text (encode_lower c.args.digest.now) (why_text c.args.why) (decimal x.turn) (units x.residual.r) =
-        λ i. head_text (hex i) (why i) (turn i) (number i) in
+    ≡ head_text (encode_lower c.args.digest.now) (why_text c.args.why) (decimal x.turn) (units x.residual.r) =
+    λ i. head_text (hex i) (why i) (turn i) (number i) in
     writes-as _ _ _ _ _ _ _ (head-is c.hexadecimal-digest.result c.why_word.result.now c.as_bytes.result.now residual ∙ same) c.put_all.ensures

@@ -1,4 +1,4 @@
-use Rattle.std.proofs.Common.{◌≡◌, ◌++◌, ◌+◌, ◌∷◌, [], ℕ, List, length, refl, sym, ap, ◌∙◌, take, drop}
+use Rattle.std.proofs.Common.{◌≡◌, ◌++◌, ◌+◌, ◌∷◌, [], ℕ, List, sym, ap, ◌∙◌, take, drop}
 use Rattle.spd_model.specs.Process.{Process}
 use Rattle.spd_model.specs.ResultText.{state_words, value_name}
 use Rattle.spd_text.specs.inner.Pieces.{spaced}
@@ -19,10 +19,10 @@ loop-i-preserved g c =
     let name : c.as_slice.result.now ≡ var.name = c.as_slice.ensures in
     let value : c.value_name-value.result.now ≡ value_name var c.get.result = c.value_name-value.ensures in
     let own : spaced (take i (state_words m s)) ++ (32 ∷ (c.as_slice.result.now ++ (61 ∷ (c.value_name-value.result.now ++ []))))
-          ≡ spaced (take i (state_words m s)) ++ (32 ∷ (var.name ++ (61 ∷ (value_name var c.get.result ++ [])))) =
-        λ k. spaced (take i (state_words m s)) ++ (32 ∷ (name k ++ (61 ∷ (value k ++ [])))) in
+    ≡ spaced (take i (state_words m s)) ++ (32 ∷ (var.name ++ (61 ∷ (value_name var c.get.result ++ [])))) =
+    λ k. spaced (take i (state_words m s)) ++ (32 ∷ (name k ++ (61 ∷ (value k ++ [])))) in
     writes-as _ _ _ _ _ _ _ (own ∙ variable-more m s c.as_slice-var-items.result.now i c.get.result var all c.loop-i-test.true c.requires c.var-item.is c.get.ensures)
-      (writes-then _ _ _ _ _ _ _ _ _ _ c.loop-i.invariant c.in_ok-put_all.ensures)
+    (writes-then _ _ _ _ _ _ _ _ _ _ c.loop-i.invariant c.in_ok-put_all.ensures)
 
 pub returns-in_err-put_all : goal.returns-in_err-put_all
 returns-in_err-put_all g c =
@@ -35,15 +35,15 @@ returns-in_err-put_all g c =
     let value : c.value_name-value.result.now ≡ value_name var c.get.result = c.value_name-value.ensures in
     let text : List ℕ = spaced (take i (state_words m s)) ++ (32 ∷ (c.as_slice.result.now ++ (61 ∷ (c.value_name-value.result.now ++ [])))) in
     let own : text ≡ spaced (take i (state_words m s)) ++ (32 ∷ (var.name ++ (61 ∷ (value_name var c.get.result ++ [])))) =
-        λ k. spaced (take i (state_words m s)) ++ (32 ∷ (name k ++ (61 ∷ (value k ++ [])))) in
+    λ k. spaced (take i (state_words m s)) ++ (32 ∷ (name k ++ (61 ∷ (value k ++ [])))) in
     let rest = spaced (drop (i + 1) (state_words m s)) in
     writes-exit _ _ _ _ _ text _ rest _ _ c.from_residual.ensures.0
-      (variables-split m s (i + 1) ∙ ap (λ (l : List ℕ). l ++ rest) (sym (own ∙ variable-more m s c.as_slice-var-items.result.now i c.get.result var all c.loop-i-test.true c.requires c.var-item.is c.get.ensures)))
-      (writes-then _ _ _ _ _ _ _ _ _ _ c.loop-i.invariant c.in_err-put_all.ensures)
+    (variables-split m s (i + 1) ∙ ap (λ (l : List ℕ). l ++ rest) (sym (own ∙ variable-more m s c.as_slice-var-items.result.now i c.get.result var all c.loop-i-test.true c.requires c.var-item.is c.get.ensures)))
+    (writes-then _ _ _ _ _ _ _ _ _ _ c.loop-i.invariant c.in_err-put_all.ensures)
 
 pub returns : goal.returns
 returns g c =
     let m = c.args.model.now in
     writes-as _ _ _ _ _ _ _
-      (variables-all m c.args.state.now c.as_slice-var-items.result.now c.loop-i.i (c.as_slice-var-items.ensures ∙ ap (λ (p : Process). p.vars) c.model.view_is) c.loop-i-test.false c.requires)
-      c.loop-i.invariant
+    (variables-all m c.args.state.now c.as_slice-var-items.result.now c.loop-i.i (c.as_slice-var-items.ensures ∙ ap (λ (p : Process). p.vars) c.model.view_is) c.loop-i-test.false c.requires)
+    c.loop-i.invariant

@@ -25,7 +25,7 @@ returns-in_err-put_state g c =
     let head = head_text (encode_lower c.args.digest.now) (why_text c.args.why) (decimal x.turn) (units x.residual.r) in
     let state = spaced (state_words m x.residual.at) in
     writes-exit _ _ _ _ _ (head ++ state) _ (end_text m x.residual x.error) _ _ c.from_residual-in_err-put_state.ensures.0 refl
-      (writes-then _ _ _ _ _ _ _ _ _ _ c.in_ok-put_head.ensures c.in_err-put_state.ensures)
+    (writes-then _ _ _ _ _ _ _ _ _ _ c.in_ok-put_head.ensures c.in_err-put_state.ensures)
 
 pub returns : goal.returns
 returns g c =
@@ -35,4 +35,4 @@ returns g c =
     let state = spaced (state_words m x.residual.at) in
     let fits : FitsSigned w128 x.error = search rules in
     writes-as _ _ _ _ _ _ _ (ap (λ (error : ℤ). (head ++ state) ++ end_text m x.residual error) (to_z-of_z w128 x.error fits))
-      (writes-then _ _ _ _ _ _ _ _ _ _ (writes-then _ _ _ _ _ _ _ _ _ _ c.in_ok-put_head.ensures c.in_ok-put_state.ensures) c.put_end.ensures)
+    (writes-then _ _ _ _ _ _ _ _ _ _ (writes-then _ _ _ _ _ _ _ _ _ _ c.in_ok-put_head.ensures c.in_ok-put_state.ensures) c.put_end.ensures)

@@ -1,4 +1,4 @@
-use Rattle.std.proofs.Common.{[], List, ℕ, Ok, Err, refl, sym, ap, ◌∙◌, subst, append-nil}
+use Rattle.std.proofs.Common.{[], List, ℕ, sym, subst, append-nil}
 use Rattle.spd_model.specs.ResultText.{text_of}
 use Rattle.spd_frozen.specs.Told.{told}
 use Rattle.spd_text.specs.inner.Pieces.{shown, Writes}
