@@ -7,3 +7,5 @@ pub mod Tables
 pub mod TableValues
 pub mod Steps
 pub mod Known
+pub mod Rows
+pub mod ReturnFits
