@@ -8,4 +8,5 @@ pub mod TableValues
 pub mod Steps
 pub mod Known
 pub mod Rows
+pub mod Products
 pub mod ReturnFits

@@ -77,7 +77,8 @@ fn all_axes(alloc: Global, model: &Model, count: usize) -> Result<Vec<Axis>, All
 impl Space {
     /// The states of a model that has so many of them.
     pub(crate) fn new(alloc: Global, model: &Model, count: usize) -> Result<Space, AllocError>
-        requires { count ≡ state_count (sizes model.now) }
+        requires count { count ≡ state_count (sizes model.now) }
+        requires few { count ≤ state_limit }
         ensures { IfOk result (IsSpace model.now) }
     {
         Ok(Space {
