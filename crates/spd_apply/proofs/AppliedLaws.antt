@@ -5,11 +5,10 @@ use Rattle.std.proofs.lemmas.Bool.Decides.{nat_tests}
 use Rattle.spd_nodes.specs.declared.leaf.Leaf.{Leaf}
 use Rattle.spd_nodes.specs.Levels.{levels_of, passes}
 use Rattle.spd_nodes.specs.Trees.{Tree, Ends, Tests, value_at, IsFrom, IsAt, IsReduced, join, tree_of}
-use Rattle.spd_nodes.proofs.TreeLaws.{tree_of-value_at}
-use Rattle.spd_nodes.proofs.ValueLaws.{value_at-join}
 use Rattle.spd_apply.specs.Halves.{yes_at, no_at, IsNotBefore}
 use Rattle.spd_apply.specs.Applied.{mapped, against, applied}
-use Rattle.spd_apply.proofs.HalfLaws.{same_level, level_of-reduced, after_le, eq-refl}
+use Rattle.spd_nodes.proofs.CallerLemmas.{same_level, after_le, level_of-reduced, tree_of-value_at, value_at-join}
+use Rattle.spd_apply.proofs.HalfLaws.{eq-refl}
 use Rattle.spd_apply.proofs.MeetingLaws.{GoesDown, made-whole}
 
 pub value_at-mapped : (ds : List ℕ) (b : ℕ) (f : Leaf → Leaf) (t : Tree) (p : List ℕ) → value_at ds b (mapped f t) p ≡ f (value_at ds b t p)

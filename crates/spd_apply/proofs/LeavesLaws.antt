@@ -7,6 +7,7 @@ use Rattle.std.specs.List.Sorted.{IsPermutation, IsSorted}
 use Rattle.std.specs.Ordering.{is_lt, int_cmp, int_eq, nat_cmp, ordering_then}
 use Rattle.std.specs.declared.cmp.Ordering.{Ordering}
 use Rattle.std.specs.declared.cmp.Ordering.TheVariants.{Less, Equal, Greater}
+use Rattle.std.proofs.lemmas.Bool.{or_right}
 use Rattle.std.proofs.lemmas.Bool.Decides.{nat_tests, Decides-eqb, Decides-int_eq, same_from_decides}
 use Rattle.std.proofs.lemmas.Int.{ints}
 use Rattle.std.proofs.lemmas.List.{length-take, get_or-take, get_or_default, take_more}
@@ -20,13 +21,13 @@ use Rattle.spd_nodes.specs.declared.leaf.Leaf.{Leaf}
 use Rattle.spd_nodes.specs.declared.leaf.Leaf.TheVariants.{Num, Pair, Act}
 use Rattle.spd_nodes.specs.contracts.leaf.LeafOrd.TheImpl.{cmp-value}
 use Rattle.spd_nodes.specs.contracts.leaf.LeafOrd.TheImpl.Laws.{total-law}
-use Rattle.spd_nodes.specs.Levels.{slots, passes, InRange, AllPositive}
+use Rattle.spd_model.specs.States.{IsState}
+use Rattle.spd_nodes.specs.Levels.{slots, passes, AllPositive}
 use Rattle.spd_nodes.specs.Trees.{Tree, Ends, Tests, tree_eq, leaf_eq, value_at, join, chain, tree_of, IsNode, Itself, InYes, InNo}
 use Rattle.spd_nodes.specs.States.{point, plain_part, primed_part, test_tree}
 use Rattle.spd_nodes.specs.Shown.{Shown, IsSound, IsWhole, meaning}
 use Rattle.spd_nodes.specs.Refs.{HasTree, IsReached, entry_eq}
-use Rattle.spd_nodes.proofs.TreeLaws.{leaf_eq-refl, leaf_eq-true}
-use Rattle.spd_nodes.proofs.StateLaws.{positive-slots, test_tree-function_of, IsPointOf, point-parts}
+use Rattle.spd_nodes.proofs.CallerLemmas.{IsPointOf, leaf_eq-refl, leaf_eq-true, point-parts, positive-slots, test_tree-function_of}
 use Rattle.spd_apply.specs.Leaves.{leaf_before, IsTaken, AreLeavesOf}
 
 -- the leaf at a point is a node of the tree
@@ -67,7 +68,7 @@ leaf-of_chain a (suc n) j l sub h = elim (leaf-of_join a (sub j) (chain n (j + 1
 -- a function of points has a leaf at some point
 record IsValueOf (ds : List ℕ) (f : List ℕ → Leaf) (a : Leaf) : Type 0 where
   at : List ℕ
-  in_range : InRange ds at
+  in_range : IsState ds at
   value : f at ≡ a
 
 -- a leaf of a function's tree is a value of the function
@@ -168,10 +169,6 @@ int-behind a b h = grind (arith, ints, nat_tests)
 int-tied : (a b : ℤ) → int_cmp b a ≡ Equal → a ≡ b
 int-tied a b h = grind (arith, ints, nat_tests)
 
-or-right : (a b : Bool) → b ≡ true → (a || b) ≡ true
-or-right true b h = refl
-or-right false b h = h
-
 pair-before : (a x b y : ℤ) → is_lt (ordering_then (int_cmp b a) (int_cmp y x)) ≡ false → Pair a x ≢ Pair b y → leaf_before (Pair a x) (Pair b y) ≡ true
 pair-before a x b y h n = go (int_cmp b a) refl h
   where
@@ -181,7 +178,7 @@ pair-before a x b y h n = go (int_cmp b a) refl h
         let i : a ≡ b = int-tied a b e in
         let j : int_lt x y ≡ true = int-before x y k (λ u. n (λ v. Pair (i v) (u v))) in
         let t : int_eq a b ≡ true = (Decides-int_eq a b).1 i in
-        or-right (int_lt a b) (int_eq a b && int_lt x y) (rw (t, j) refl)
+        or_right (int_lt a b) (int_eq a b && int_lt x y) (rw (t, j) refl)
     go Greater e k = let i : int_lt a b ≡ true = int-behind a b e in rw i refl
 
 -- of two leaves that differ, the one that the derived comparison doesn't put behind the other stands before it

@@ -1,10 +1,12 @@
+pub mod CallerLemmas
 pub mod AppliedLaws
-pub mod CeilingLaws
+pub mod BelowLaws
+pub mod FitLaws
 pub mod HalfLaws
 pub mod LeavesLaws
 pub mod MapLaws
 pub mod MeetingLaws
 pub mod MemoLaws
 pub mod PlanLaws
-pub mod Steps
+pub mod RoundingLaws
 pub mod WholeLaws

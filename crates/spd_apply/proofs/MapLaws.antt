@@ -7,9 +7,7 @@ use Rattle.spd_nodes.specs.Levels.{levels_of, slots}
 use Rattle.spd_nodes.specs.Trees.{Ends, Tests, IsFrom, IsReduced, value_at}
 use Rattle.spd_nodes.specs.States.{point, plain_part, primed_part, function_of, Agree}
 use Rattle.spd_nodes.specs.Shown.{Shown, IsSound, IsWhole, meaning}
-use Rattle.spd_nodes.proofs.RankLaws.{rank-view}
-use Rattle.spd_nodes.proofs.TreeLaws.{tree_of-value_at, tree_of-agree}
-use Rattle.spd_nodes.proofs.StateLaws.{positive-slots, IsPointOf, point-parts}
+use Rattle.spd_nodes.proofs.CallerLemmas.{IsTreeFor, IsPointOf, point-parts, positive-slots, rank-view, tree_of-agree, tree_of-value_at}
 use Rattle.spd_apply.specs.declared.rule.Below.TheVariants as B
 use Rattle.spd_apply.specs.Applied.{applied, mapped, map_mark, EachFits}
 use Rattle.spd_apply.specs.Outcome.{map_each, FitsEverywhere}
@@ -18,10 +16,6 @@ use Rattle.spd_apply.proofs.HalfLaws.{eq-refl}
 use Rattle.spd_apply.proofs.MeetingLaws.{Meets, meets-right, descends}
 use Rattle.spd_apply.proofs.AppliedLaws.{applied-goes, applied-whole, applied-tree_of, value_at-mapped}
 use Rattle.spd_apply.proofs.PlanLaws.{join-ends, fit-leaves}
-
--- the operation that a map is, beside a leaf
-second : (Leaf → Leaf) → Leaf → Leaf → Leaf
-second map a b = map b
 
 mark-true : (fits : Leaf → Bool) (x : Leaf) → EachFits fits (Ends x) → fits x ≡ true
 mark-true fits x h = fit-leaves (λ a b. fits b) x x h.all
@@ -52,14 +46,11 @@ module _ (map : Leaf → Leaf) (fits : Leaf → Bool) (s : Shown) (o : IsSound s
       }
 
   module _ (wf : IsWhole s f) where
-    pub map-value : Agree s.sizes (function_of s.sizes (mapped map (s.tree f))) (map_each map (meaning s f))
-    map-value = record { at = λ x y i j. value_at-mapped ds 0 map (s.tree f) (point x y) }
-
-    pub map-reduced : IsReduced ds 0 (mapped map (s.tree f))
-    map-reduced = (applied-whole ds (λ a b. map b) (Ends (Act 0)) (s.tree f) tt (o.reduced f kf) tt wf).0
-
-    pub map-whole : IsFrom ds 0 0 (mapped map (s.tree f))
-    map-whole = (applied-whole ds (λ a b. map b) (Ends (Act 0)) (s.tree f) tt (o.reduced f kf) tt wf).1
+    -- what is made is the tree of the map's answers
+    pub map-tree : IsTreeFor s (mapped map (s.tree f)) (map_each map (meaning s f))
+    map-tree =
+        let w : IsReduced ds 0 (mapped map (s.tree f)) × IsFrom ds 0 0 (mapped map (s.tree f)) = applied-whole ds (λ a b. map b) (Ends (Act 0)) (s.tree f) tt (o.reduced f kf) tt wf in
+        record { reduced = w.0; whole = w.1; value = record { at = λ x y i j. value_at-mapped ds 0 map (s.tree f) (point x y) } }
 
     pub map-fits : FitsEverywhere fits s f → EachFits fits (s.tree f)
     map-fits h = record {

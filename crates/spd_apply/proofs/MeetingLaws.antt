@@ -3,11 +3,12 @@ use Rattle.std.proofs.Common.{◌≡◌, ℕ, zero, suc, ◌+◌, ◌<◌, ◌�
 use Rattle.std.specs.Prelude.{nat_lt}
 use Rattle.std.proofs.lemmas.Bool.Decides.{nat_tests}
 use Rattle.spd_nodes.specs.Levels.{levels_of, after, is_first}
-use Rattle.spd_nodes.specs.Trees.{Tree, Ends, Tests, IsFrom, IsAt, IsReduced, CanTest, join}
-use Rattle.spd_nodes.proofs.TreeLaws.{after_above}
-use Rattle.spd_apply.specs.Halves.{yes_at, no_at, AreLeaves, IsNotBefore, Fits, IsAligned}
+use Rattle.spd_nodes.specs.Trees.{Tree, Ends, Tests, IsFrom, IsAt, IsReduced, CanTest, join, IsAtOrPast}
+use Rattle.spd_apply.specs.Halves.{yes_at, no_at, AreLeaves, IsNotBefore, IsAligned}
 use Rattle.spd_apply.specs.Rules.{Making}
-use Rattle.spd_apply.proofs.HalfLaws.{Splits, splits-at, splits-past, after-next, level_of-reduced, aligned-from, aligned-fits, Joins, joins, IsFrom-at, IsFrom-lower, at-from, after_le, eq-refl, ne-false, three, not-before-lower}
+use Rattle.spd_nodes.proofs.CallerLemmas.{after_le, after-next, level_of-reduced, Joins, joins, IsFrom-at, IsFrom-lower, at-from, after_above}
+use Rattle.std.proofs.lemmas.Bool.{cases_order, ne_eqb}
+use Rattle.spd_apply.proofs.HalfLaws.{Splits, splits-at, splits-past, aligned-from, aligned-fits, eq-refl, not-before-lower}
 
 -- the lower of the levels that two trees test first
 abbrev pub top_of : Tree → Tree → ℕ
@@ -56,7 +57,7 @@ meets-left ds k y n (Ends b) r s f = record {
 }
 meets-left ds k y n (Tests l v m) r s f =
     let h : k < after ds k = after_above ds k (level_of-reduced ds k y n r) in
-    let b : (l == k) ≡ false = ne-false l k (omega arith) in
+    let b : (l == k) ≡ false = ne_eqb l k (omega arith) in
     record {
       level = level_of-reduced ds k y n r;
       left = splits-at ds k y n r;
@@ -81,7 +82,7 @@ meets-right ds l (Ends a) v m r s f = record {
 }
 meets-right ds l (Tests k y n) v m r s f =
     let h : l < after ds l = after_above ds l (level_of-reduced ds l v m s) in
-    let b : (k == l) ≡ false = ne-false k l (omega arith) in
+    let b : (k == l) ≡ false = ne_eqb k l (omega arith) in
     record {
       level = level_of-reduced ds l v m s;
       left = splits-past ds l (Tests k y n) h r f;
@@ -112,7 +113,7 @@ size-positive (Ends a) = omega arith
 size-positive (Tests l y n) = omega arith
 
 -- two trees with one level in the first place
-meets-fits : (ds : List ℕ) (k : ℕ) (t u : Tree) → IsReduced ds 0 t → IsReduced ds 0 u → Fits ds k t → Fits ds k u
+meets-fits : (ds : List ℕ) (k : ℕ) (t u : Tree) → IsReduced ds 0 t → IsReduced ds 0 u → IsAtOrPast ds k t → IsAtOrPast ds k u
     → (IsFrom ds 0 (after ds k) t × IsFrom ds 0 (after ds k) u) ⊎ Meets ds k t u
 meets-fits ds k t u r s (inl f) (inl g) = inl (f, g)
 meets-fits ds k (Ends a) u r s (inr f) g = absurd f
@@ -153,8 +154,8 @@ module _ (ds : List ℕ) (stop : ℕ) (making : Making) (d : GoesDown ds stop ma
   record Good (n : ℕ) : Type 0 where
     whole : (t u : Tree) → tree_size t + tree_size u ≤ n → IsReduced ds 0 t → IsReduced ds 0 u → (e : ℕ) → e ≤ stop → IsFrom ds 0 e t → IsFrom ds 0 e u
         → IsReduced ds 0 (making t u) × IsFrom ds 0 e (making t u)
-    part : (t u : Tree) → tree_size t + tree_size u ≤ n → IsReduced ds 0 t → IsReduced ds 0 u → (k : ℕ) → k < levels_of ds → k < stop → Fits ds k t → Fits ds k u
-        → IsReduced ds 0 (making t u) × Fits ds k (making t u)
+    part : (t u : Tree) → tree_size t + tree_size u ≤ n → IsReduced ds 0 t → IsReduced ds 0 u → (k : ℕ) → k < levels_of ds → k < stop → IsAtOrPast ds k t → IsAtOrPast ds k u
+        → IsReduced ds 0 (making t u) × IsAtOrPast ds k (making t u)
 
   record Children (l : ℕ) (y n : Tree) : Type 0 where
     yes_reduced : IsReduced ds 0 y
@@ -170,10 +171,10 @@ module _ (ds : List ℕ) (stop : ℕ) (making : Making) (d : GoesDown ds stop ma
       go m.left.no_fits m.right.no_fits in
       record { yes_reduced = y.0; no_reduced = k.0; can_test = record { yes_fits = y.1; no_fits = k.1 } }
     where
-      next : l + 1 < after ds l → Fits ds (l + 1) (no_at l t) → Fits ds (l + 1) (no_at l u)
+      next : l + 1 < after ds l → IsAtOrPast ds (l + 1) (no_at l t) → IsAtOrPast ds (l + 1) (no_at l u)
           → IsReduced ds 0 (making (no_at l t) (no_at l u)) × (IsFrom ds 0 (after ds l) (making (no_at l t) (no_at l u)) ⊎ (IsAt (l + 1) (making (no_at l t) (no_at l u)) × (l + 1 < after ds l)))
       next i f g =
-          let k : IsReduced ds 0 (making (no_at l t) (no_at l u)) × Fits ds (l + 1) (making (no_at l t) (no_at l u)) =
+          let k : IsReduced ds 0 (making (no_at l t) (no_at l u)) × IsAtOrPast ds (l + 1) (making (no_at l t) (no_at l u)) =
           good.part (no_at l t) (no_at l u) (omega (arith, m.smaller_no)) m.left.no_reduced m.right.no_reduced (l + 1) (omega (arith, after_le ds l)) (omega (arith, d.within l m.level b)) f g in
           (k.0, elim k.1 [ inl a ↦ inl (rw (after-next ds l i) at a) | inr a ↦ inr (a, i) ])
 
@@ -187,8 +188,8 @@ module _ (ds : List ℕ) (stop : ℕ) (making : Making) (d : GoesDown ds stop ma
       go (inr f) (inl g) = next f.1 (inr f.0) (inl (rw (after-next ds l f.1) g))
       go (inl f) (inr g) = next g.1 (inl (rw (after-next ds l g.1) f)) (inr g.0)
 
-  joined : (n : ℕ) → Good n → (l : ℕ) (t u : Tree) → tree_size t + tree_size u ≤ suc n → l < stop → Meets ds l t u → Joins ds l (making t u)
-  joined n good l t u h b m =
+  joins-halves : (n : ℕ) → Good n → (l : ℕ) (t u : Tree) → tree_size t + tree_size u ≤ suc n → l < stop → Meets ds l t u → Joins ds l (making t u)
+  joins-halves n good l t u h b m =
       let c : Children l (making (yes_at l t) (yes_at l u)) (making (no_at l t) (no_at l u)) = children n good l t u h b m in
       subst (λ v. Joins ds l v) (sym (d.is_join l t u b m.left_from m.right_from m.one_at)) (joins ds l _ _ m.level c.yes_reduced c.no_reduced c.can_test)
 
@@ -204,7 +205,7 @@ module _ (ds : List ℕ) (stop : ℕ) (making : Making) (d : GoesDown ds stop ma
   step-whole n good t u h r s e b f g =
       elim (meets-cases ds t u r s (aligned-from ds e t u r s f g)) [
         | inl q ↦ d.bottom e t u b r s (leaves-left stop t u q) (leaves-right stop t u q) f g
-        | inr m ↦ go m (three (top_of t u) stop)
+        | inr m ↦ go m (cases_order (top_of t u) stop)
       ]
     where
       past : Meets ds (top_of t u) t u → stop ≤ top_of t u → IsReduced ds 0 (making t u) × IsFrom ds 0 e (making t u)
@@ -212,15 +213,15 @@ module _ (ds : List ℕ) (stop : ℕ) (making : Making) (d : GoesDown ds stop ma
 
       go : Meets ds (top_of t u) t u → (top_of t u ≡ stop) ⊎ (top_of t u < stop) ⊎ (stop < top_of t u) → IsReduced ds 0 (making t u) × IsFrom ds 0 e (making t u)
       go m (inl i) = past m (omega arith)
-      go m (inr (inl i)) = whole_from (top_of t u) t u m (joined n good (top_of t u) t u h i m) e f g
+      go m (inr (inl i)) = whole_from (top_of t u) t u m (joins-halves n good (top_of t u) t u h i m) e f g
       go m (inr (inr i)) = past m (omega arith)
 
-  step-part : (n : ℕ) → Good n → (t u : Tree) → tree_size t + tree_size u ≤ suc n → IsReduced ds 0 t → IsReduced ds 0 u → (k : ℕ) → k < levels_of ds → k < stop → Fits ds k t → Fits ds k u
-      → IsReduced ds 0 (making t u) × Fits ds k (making t u)
+  step-part : (n : ℕ) → Good n → (t u : Tree) → tree_size t + tree_size u ≤ suc n → IsReduced ds 0 t → IsReduced ds 0 u → (k : ℕ) → k < levels_of ds → k < stop → IsAtOrPast ds k t → IsAtOrPast ds k u
+      → IsReduced ds 0 (making t u) × IsAtOrPast ds k (making t u)
   step-part n good t u h r s k i b f g =
       elim (meets-fits ds k t u r s f g) [
         | inl q ↦ (let w : IsReduced ds 0 (making t u) × IsFrom ds 0 (after ds k) (making t u) = step-whole n good t u h r s (after ds k) (d.within k i b) q.0 q.1 in (w.0, inl w.1))
-        | inr m ↦ (let j : Joins ds k (making t u) = joined n good k t u h b m in (j.reduced, j.fits))
+        | inr m ↦ (let j : Joins ds k (making t u) = joins-halves n good k t u h b m in (j.reduced, j.fits))
       ]
 
   good-all : (n : ℕ) → Good n
@@ -242,7 +243,7 @@ module _ (ds : List ℕ) (stop : ℕ) (making : Making) (d : GoesDown ds stop ma
     can_test = (children (tree_size t + tree_size u) (good-all (tree_size t + tree_size u)) l t u (omega arith) b m).can_test;
   }
     where
-      next : l + 1 < after ds l → Fits ds (l + 1) (no_at l t) → Fits ds (l + 1) (no_at l u) → IsAligned ds (no_at l t) (no_at l u)
+      next : l + 1 < after ds l → IsAtOrPast ds (l + 1) (no_at l t) → IsAtOrPast ds (l + 1) (no_at l u) → IsAligned ds (no_at l t) (no_at l u)
       next i f g = aligned-fits ds (l + 1) (no_at l t) (no_at l u) (after_above ds (l + 1) (omega (arith, after_le ds l))) m.left.no_reduced m.right.no_reduced f g
 
       aligned_next : (IsFrom ds 0 (after ds l) (no_at l t) ⊎ (IsAt (l + 1) (no_at l t) × (l + 1 < after ds l))) → (IsFrom ds 0 (after ds l) (no_at l u) ⊎ (IsAt (l + 1) (no_at l u) × (l + 1 < after ds l)))

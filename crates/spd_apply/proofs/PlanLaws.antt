@@ -10,9 +10,8 @@ use Rattle.spd_nodes.specs.declared.forest.View.{View}
 use Rattle.spd_nodes.specs.declared.forest.View.TheVariants as V
 use Rattle.spd_nodes.specs.Levels.{levels_of, slots, after}
 use Rattle.spd_nodes.specs.Trees.{Tree, Ends, Tests, tree_eq, tree_rank, join, IsAt}
-use Rattle.spd_nodes.specs.Shown.{Shown, IsSound, IsViewOf}
-use Rattle.spd_nodes.proofs.RankLaws.{rank-from, rank-at}
-use Rattle.spd_nodes.proofs.TreeLaws.{tree_eq-true, after_above}
+use Rattle.spd_nodes.specs.Shown.{Shown, IsSound, KnowsAs, IsViewOf}
+use Rattle.spd_nodes.proofs.CallerLemmas.{after_above, rank-at, rank-from, tree_eq-true}
 use Rattle.spd_apply.specs.declared.rule.Below.TheVariants as B
 use Rattle.spd_apply.specs.Halves.{yes_at, no_at, AreLeaves, IsNotBefore, IsAligned, pair_rank}
 use Rattle.spd_apply.specs.Applied.{applied, fit_mark, AllFit, MayApply}
@@ -22,24 +21,20 @@ use Rattle.spd_apply.proofs.HalfLaws.{Splits}
 use Rattle.spd_apply.proofs.MeetingLaws.{top_of, Meets, meets-cases, GoesDown, Descends, descends}
 use Rattle.spd_apply.proofs.AppliedLaws.{applied-goes}
 
--- an entry that is known, with its tree
-pub record Known (s : Shown) (r : Entry) (t : Tree) : Type 0 where
-  pub knows : s.knows r ≡ true
-  pub tree : s.tree r ≡ t
-
-pub next_yes-is : (s : Shown) (v : View) (r : Entry) (l : Level) → s.knows r ≡ true → IsViewOf s r v → Known s (next_yes v r l) (yes_at l.0 (s.tree r))
+-- where an entry goes on
+pub next_yes-is : (s : Shown) (v : View) (r : Entry) (l : Level) → s.knows r ≡ true → IsViewOf s r v → KnowsAs s (next_yes v r l) (yes_at l.0 (s.tree r))
 next_yes-is s (V.Leaf a) r l k h = record { knows = k; tree = rw h refl }
 next_yes-is s (V.Test j y n) r l k h = go (j.0 == l.0) refl
   where
-    go : (t : Bool) → (j.0 == l.0) ≡ t → Known s (cond t y r) (yes_at l.0 (s.tree r))
+    go : (t : Bool) → (j.0 == l.0) ≡ t → KnowsAs s (cond t y r) (yes_at l.0 (s.tree r))
     go true e = record { knows = h.1; tree = rw (h.0, e) refl }
     go false e = record { knows = k; tree = rw (h.0, e) refl }
 
-pub next_no-is : (s : Shown) (v : View) (r : Entry) (l : Level) → s.knows r ≡ true → IsViewOf s r v → Known s (next_no v r l) (no_at l.0 (s.tree r))
+pub next_no-is : (s : Shown) (v : View) (r : Entry) (l : Level) → s.knows r ≡ true → IsViewOf s r v → KnowsAs s (next_no v r l) (no_at l.0 (s.tree r))
 next_no-is s (V.Leaf a) r l k h = record { knows = k; tree = rw h refl }
 next_no-is s (V.Test j y n) r l k h = go (j.0 == l.0) refl
   where
-    go : (t : Bool) → (j.0 == l.0) ≡ t → Known s (cond t n r) (no_at l.0 (s.tree r))
+    go : (t : Bool) → (j.0 == l.0) ≡ t → KnowsAs s (cond t n r) (no_at l.0 (s.tree r))
     go true e = record { knows = h.2; tree = rw (h.0, e) refl }
     go false e = record { knows = k; tree = rw (h.0, e) refl }
 
@@ -107,13 +102,6 @@ lower-first s (V.Test j y n) (V.Test k v w) f g l h i e = rw (h.0, i.0) (go (nat
     go true q p = (let r : k.0 ≡ l.0 = ap (λ (x : Level). x.0) p in grind (arith, nat_tests), let r : k.0 ≡ l.0 = ap (λ (x : Level). x.0) p in omega arith)
     go false q p = (let r : j.0 ≡ l.0 = ap (λ (x : Level). x.0) p in omega arith, let r : j.0 ≡ l.0 = ap (λ (x : Level). x.0) p in grind (arith, nat_tests))
 
--- where no view tests a level, both trees are leaves
-pub lower-none : (s : Shown) (a b : View) (f g : Entry) → IsViewOf s f a → IsViewOf s g b → lower_of_views a b ≡ None → AreLeaves (s.tree f) (s.tree g)
-lower-none s (V.Leaf a) (V.Leaf b) f g h i e = rw (h, i) tt
-lower-none s (V.Leaf a) (V.Test l v m) f g h i e = absurd (cc e)
-lower-none s (V.Test k v m) (V.Leaf b) f g h i e = absurd (cc e)
-lower-none s (V.Test k v m) (V.Test l w n) f g h i e = absurd (cc e)
-
 -- How an operation that goes down goes on from two entries before its level, if it may meet their halves.
 module _ (making : Making) (may : Tree → Tree → Type 0) (stop : ℕ) (s : Shown) (o : IsSound s) (f g : Entry) (kf : s.knows f ≡ true) (kg : s.knows g ≡ true)
     (aligned : IsAligned (slots s.sizes) (s.tree f) (s.tree g)) (d : GoesDown (slots s.sizes) stop making) where
@@ -126,7 +114,7 @@ module _ (making : Making) (may : Tree → Tree → Type 0) (stop : ℕ) (s : Sh
     pub no : may (no_at l (s.tree f)) (no_at l (s.tree g))
 
   plans-from : (l : ℕ) (fy fn gy gn : Entry) → l < stop → Meets ds l (s.tree f) (s.tree g) → MayMeetHalves l
-      → Known s fy (yes_at l (s.tree f)) → Known s fn (no_at l (s.tree f)) → Known s gy (yes_at l (s.tree g)) → Known s gn (no_at l (s.tree g))
+      → KnowsAs s fy (yes_at l (s.tree f)) → KnowsAs s fn (no_at l (s.tree f)) → KnowsAs s gy (yes_at l (s.tree g)) → KnowsAs s gn (no_at l (s.tree g))
       → PlansTest making may s f g l (B.Pair fy gy) (B.Pair fn gn)
   plans-from l fy fn gy gn h m halves a b c e =
       let w : Descends ds l making (yes_at l (s.tree f)) (no_at l (s.tree f)) (yes_at l (s.tree g)) (no_at l (s.tree g)) = descends ds stop making d l (s.tree f) (s.tree g) h m in
@@ -156,6 +144,7 @@ module _ (fits : Leaf → Leaf → Bool) (op : Leaf → Leaf → Leaf) (s : Show
   abbrev slots_of : List ℕ
   slots_of = slots s.sizes
 
+  -- two leaves that it meets fit
   pub fit-ends : (x y : Leaf) → s.tree f ≡ Ends x → s.tree g ≡ Ends y → fits x y ≡ true
   fit-ends x y h i = fit-leaves fits x y (rw (h, i) at may.fit)
 

@@ -28,10 +28,6 @@ abbrev pub IsNotBefore : ℕ → Tree → Type 0
 IsNotBefore l (Ends a) = Unit {0}
 IsNotBefore l (Tests k y n) = l ≤ k
 
--- a tree whose root tests this level, or that is past the level's slot
-abbrev pub Fits : List ℕ → ℕ → Tree → Type 0
-Fits ds l t = IsFrom ds 0 (after ds l) t ⊎ IsAt l t
-
 -- two trees that an operation may meet: where both roots test one slot, they test one level
 abbrev pub IsAligned : List ℕ → Tree → Tree → Type 0
 IsAligned ds (Ends a) u = Unit {0}

@@ -4,7 +4,8 @@ use Rattle.std.specs.List.{AllPairs}
 use Rattle.std.specs.Ordering.{int_eq}
 use Rattle.spd_nodes.specs.declared.leaf.Leaf.{Leaf}
 use Rattle.spd_nodes.specs.declared.leaf.Leaf.TheVariants.{Num, Pair, Act}
-use Rattle.spd_nodes.specs.States.{Function, IsState}
+use Rattle.spd_model.specs.States.{IsState}
+use Rattle.spd_nodes.specs.States.{Function}
 
 -- whether a leaf stands before another one: each Num before each Pair, and both before each Act; two Num or two Act by their
 -- numbers; two Pair by their first numbers, and where these are equal by their second ones
@@ -32,3 +33,7 @@ pub record AreLeavesOf (sizes : List ℕ) (function : Function) (leaves : List L
   pub all : (s t : List ℕ) → IsState sizes s → IsState sizes t → Contains leaves (function s t)
   pub only : (leaf : Leaf) → Contains leaves leaf → IsTaken sizes function leaf
   pub ascending : AllPairs (λ a b. leaf_before a b ≡ true) leaves
+
+-- Each leaf that one function takes fits each leaf that another one takes.
+pub record EachFit (fits : Leaf → Leaf → Bool) (sizes : List ℕ) (f g : Function) : Type 0 where
+  pub at : (a b : Leaf) → IsTaken sizes f a → IsTaken sizes g b → fits a b ≡ true

@@ -1,13 +1,9 @@
 -- The maps that divide, by a number above 0. Where a leaf is no Num, a map isn't defined, and its value here is the leaf.
-use Rattle.std.specs.Prelude.{◌&&◌, Bool, false, ℤ, pos, int_lt, ◌*ℤ◌, neg_ℤ}
-use Rattle.std.specs.Int.{int_div_euclid}
+use Rattle.std.specs.Prelude.{◌&&◌, Bool, false, ℤ, pos, int_lt, ◌*ℤ◌}
+use Rattle.spd_scaled.specs.Scaled.{floor_div, ceil_div}
 use Rattle.spd_nodes.specs.declared.leaf.Leaf.{Leaf}
 use Rattle.spd_nodes.specs.declared.leaf.Leaf.TheVariants.{Num, Pair, Act}
 use Rattle.spd_apply.specs.Operations.{in_i128}
-
--- `n / d` rounded up, for d above 0: rounding down, seen from the other side of 0
-abbrev pub ceiling : ℤ → ℤ → ℤ
-ceiling n d = neg_ℤ (int_div_euclid (neg_ℤ n) d)
 
 -- whether a leaf is a Num and the divisor is above 0
 abbrev pub by_fits : ℤ → Leaf → Bool
@@ -17,13 +13,13 @@ by_fits d (Act a) = false
 
 -- a Num over a divisor, rounded down
 abbrev pub floor_by : ℤ → Leaf → Leaf
-floor_by d (Num a) = Num (int_div_euclid a d)
+floor_by d (Num a) = Num (floor_div a d)
 floor_by d (Pair a x) = Pair a x
 floor_by d (Act a) = Act a
 
 -- a Num over a divisor, rounded up
 abbrev pub ceil_by : ℤ → Leaf → Leaf
-ceil_by d (Num a) = Num (ceiling a d)
+ceil_by d (Num a) = Num (ceil_div a d)
 ceil_by d (Pair a x) = Pair a x
 ceil_by d (Act a) = Act a
 
@@ -35,12 +31,12 @@ times_fits g gd (Act a) = false
 
 -- a Num times a number over a divisor, rounded down
 abbrev pub times_floor : ℤ → ℤ → Leaf → Leaf
-times_floor g gd (Num a) = Num (int_div_euclid (g *ℤ a) gd)
+times_floor g gd (Num a) = Num (floor_div (g *ℤ a) gd)
 times_floor g gd (Pair a x) = Pair a x
 times_floor g gd (Act a) = Act a
 
 -- a Num times a number over a divisor, rounded up
 abbrev pub times_ceil : ℤ → ℤ → Leaf → Leaf
-times_ceil g gd (Num a) = Num (ceiling (g *ℤ a) gd)
+times_ceil g gd (Num a) = Num (ceil_div (g *ℤ a) gd)
 times_ceil g gd (Pair a x) = Pair a x
 times_ceil g gd (Act a) = Act a

@@ -1,11 +1,12 @@
 -- How an operation on diagrams goes down: what it makes of two trees, said of the trees below theirs.
-use Rattle.std.specs.Prelude.{◌≡◌, ℕ, ◌+◌, ◌<◌, ◌≤◌, [], ◌∷◌, true, Contains}
+use Rattle.std.specs.Prelude.{◌≡◌, ℕ, ◌+◌, ◌<◌, ◌≤◌, true, Contains}
 use Rattle.spd_cons_core.specs.declared.key.Entry.{Entry}
-use Rattle.spd_memo.specs.Kept.{Kept}
+use Rattle.spd_memo.specs.Kept.{KeptAnswers}
 use Rattle.spd_nodes.specs.Levels.{levels_of, slots}
-use Rattle.spd_nodes.specs.Trees.{Tree, join, CanTest}
-use Rattle.spd_nodes.specs.Shown.{Shown, IsSound, Grows, MakesOnly}
+use Rattle.spd_nodes.specs.Trees.{Tree, Ends, join, CanTest}
+use Rattle.spd_nodes.specs.Shown.{Shown, IsSound, IsViewOf}
 use Rattle.spd_apply.specs.Halves.{pair_rank}
+use Rattle.spd_apply.specs.declared.rule.Node.{Node}
 use Rattle.spd_apply.specs.declared.rule.Below.{Below}
 use Rattle.spd_apply.specs.declared.rule.Below.TheVariants as B
 use Rattle.spd_apply.specs.declared.rule.Plan.{Plan}
@@ -52,8 +53,14 @@ pub record PlansTest (making : Making) (may : Tree → Tree → Type 0) (s : Sho
   pub yes_smaller : below_rank s yes ≤ pair_rank (slots s.sizes) (s.tree f) (s.tree g)
   pub no_smaller : below_rank s no ≤ pair_rank (slots s.sizes) (s.tree f) (s.tree g)
 
+-- a known entry, with the root of its tree
+pub record IsNodeAt (s : Shown) (n : Node) : Type 0 where
+  pub known : s.knows n.name ≡ true
+  pub root : IsViewOf s n.name n.root
+
 -- a plan says what is made of two entries, or that they are trees from which an operation goes no further
 abbrev pub IsPlan : Making → (Tree → Tree → Type 0) → (Tree → Tree → Type 0) → Shown → Entry → Entry → Plan → Type 0
+IsPlan making may ends s f g (P.Leaf a) = making (s.tree f) (s.tree g) ≡ Ends a
 IsPlan making may ends s f g P.Bottom = ends (s.tree f) (s.tree g)
 IsPlan making may ends s f g (P.Below b) = PlansBelow making may s f g b
 IsPlan making may ends s f g (P.Test l y n) = PlansTest making may s f g l.0 y n
@@ -66,20 +73,13 @@ pub record IsAnswer (making : Making) (s : Shown) (f g r : Entry) : Type 0 where
   pub is : s.tree r ≡ making (s.tree f) (s.tree g)
 
 -- a memo holds only answers of an operation, for entries that the forest knows
-pub record HoldsAnswers (making : Making) (s : Shown) (k : Kept) : Type 0 where
+pub record HoldsAnswers (making : Making) (s : Shown) (k : KeptAnswers) : Type 0 where
   pub each : (f g r : Entry) → Contains k.pairs ((f, g), r) → IsAnswer making s f g r
 
 -- two known entries may be met, and the memo holds only answers
-pub record IsReady (making : Making) (may : Tree → Tree → Type 0) (s : Shown) (f g : Entry) (k : Kept) : Type 0 where
+pub record IsReady (making : Making) (may : Tree → Tree → Type 0) (s : Shown) (f g : Entry) (k : KeptAnswers) : Type 0 where
   pub sound : IsSound s
   pub left : s.knows f ≡ true
   pub right : s.knows g ≡ true
   pub may_meet : may (s.tree f) (s.tree g)
   pub memo : HoldsAnswers making s k
-
--- all that was known stays, only nodes of a tree were made, and the memo holds only answers
-pub record Did (making : Making) (s t : Shown) (u : Tree) (k : Kept) : Type 0 where
-  pub sound : IsSound t
-  pub grows : Grows s t
-  pub makes : MakesOnly s t (u ∷ [])
-  pub memo : HoldsAnswers making t k

@@ -1,5 +1,7 @@
-ghost use Rattle.std.specs.Prelude.{◌≡◌, ℕ, [], ◌∷◌, IfOk, IfErr, true};
-ghost use Rattle.spd_nodes.specs.Shown.{Shown, IsSound, Grows, IsWhole, StandsFor, MakesNodesOf, FaultsAt, meaning};
+//! An operation on leaves, carried out on two diagrams.
+
+ghost use Rattle.std.specs.Prelude.{◌≡◌, ℕ, true};
+ghost use Rattle.spd_nodes.specs.Shown.{Shown, IsWhole, MakesDiagram, meaning};
 ghost use Rattle.spd_apply.specs.Applied.{applied};
 ghost use Rattle.spd_apply.specs.Outcome.{FitEverywhere, at_each};
 ghost use Rattle.spd_apply.specs.Rules.{HoldsAnswers};
@@ -32,12 +34,8 @@ pub fn apply<F: Forest, O: LeafOp, L: Ledger>(
     requires fit { FitEverywhere (O.fits op.now) (F.shows forest.old) f g }
     requires memo { HoldsAnswers (applied (O.of op.now)) (F.shows forest.old) memo.old }
 
-    ensures sound { IsSound (F.shows forest.new) }
-    ensures grows { Grows (F.shows forest.old) (F.shows forest.new) }
+    ensures made { MakesDiagram (F.shows forest.old) (F.shows forest.new) (at_each (O.of op.now) (meaning (F.shows forest.old) f) (meaning (F.shows forest.old) g)) result }
     ensures keeps { F.kept forest.new ≡ F.kept forest.old }
-    ensures ok { IfOk result (λ r. StandsFor (F.shows forest.new) r (at_each (O.of op.now) (meaning (F.shows forest.old) f) (meaning (F.shows forest.old) g))) }
-    ensures makes { MakesNodesOf (F.shows forest.old) (F.shows forest.new) (at_each (O.of op.now) (meaning (F.shows forest.old) f) (meaning (F.shows forest.old) g) ∷ []) }
-    ensures fault { IfErr result (λ e. FaultsAt e (F.shows forest.new) (at_each (O.of op.now) (meaning (F.shows forest.old) f) (meaning (F.shows forest.old) g) ∷ [])) }
     ensures memo { HoldsAnswers (applied (O.of op.now)) (F.shows forest.new) memo.new }
     ensures capacity { memo.new.capacity ≡ memo.old.capacity }
 {

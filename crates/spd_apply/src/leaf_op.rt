@@ -1,3 +1,5 @@
+//! Operations on leaves, and maps of a leaf.
+
 ghost use Rattle.std.specs.Prelude.{◌≡◌, Bool, true};
 ghost use Rattle.spd_nodes.specs.declared.leaf.Leaf.{Leaf};
 

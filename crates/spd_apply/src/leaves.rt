@@ -1,3 +1,5 @@
+//! The leaves of a diagram.
+
 ghost use Rattle.std.specs.Prelude.{◌≡◌, IfOk, true};
 ghost use Rattle.spd_nodes.specs.Shown.{Shown, IsSound, IsWhole, meaning};
 ghost use Rattle.spd_apply.specs.Leaves.{AreLeavesOf};

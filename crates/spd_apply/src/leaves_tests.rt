@@ -1,3 +1,5 @@
+//! The order of leaves, on one diagram.
+
 ghost use Rattle.std.specs.Prelude.{◌≡◌, ℕ, ◌<◌, ◌∷◌, [], IfOk, true};
 ghost use Rattle.spd_nodes.specs.Shown.{Shown, Grows, KnowsAs};
 ghost use Rattle.spd_nodes.specs.Levels.{levels_of, slots};

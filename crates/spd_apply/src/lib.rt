@@ -2,6 +2,7 @@
 #![tactic(auto)]
 
 pub mod binary;
+pub mod conditions;
 pub mod leaf_op;
 pub mod leaves;
 pub mod make;
@@ -10,17 +11,20 @@ pub mod operations;
 pub mod pointwise;
 pub mod rounding;
 pub mod rule;
+pub mod split;
 pub mod unary;
 
 pub use binary::apply;
+pub use conditions::{fits_leaves, maps_leaves};
 pub use leaf_op::{LeafMap, LeafOp};
 pub use leaves::leaves_of;
 pub use make::{make_alone, make_pair};
 pub use maps::{ActNum, First, Second, SecondAct};
 pub use operations::{Add, Keep, MakePair, Max, Min, Mul, PickFirst, Sub};
-pub use pointwise::{Pointwise, halves, lower_level};
+pub use pointwise::Pointwise;
 pub use rounding::{CeilBy, FloorBy, TimesCeil, TimesFloor};
-pub use rule::{Below, OpFault, Plan, Rule};
+pub use rule::{Below, Descent, Node, OpFault, Plan, Rule};
+pub use split::{halves, lower_level, test_of_halves};
 pub use unary::{EachLeaf, map_leaves};
 
 #[cfg(test)]

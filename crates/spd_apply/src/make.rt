@@ -1,12 +1,14 @@
-ghost use Rattle.std.specs.Prelude.{◌≡◌, ℕ, ◌∷◌, [], IfOk, IfErr, IfSome, OnOk, true};
+//! The recursion that all operations share: recall, view, plan, go on below, keep.
+
+ghost use Rattle.std.specs.Prelude.{◌≡◌, ℕ, IfOk, IfErr, IfSome, OnOk, true};
 ghost use Rattle.spd_memo.specs.Kept.{answer_in, put_in};
 ghost use Rattle.spd_nodes.specs.declared.forest.StoreFault.{StoreFault};
 ghost use Rattle.spd_nodes.specs.Levels.{slots};
-ghost use Rattle.spd_nodes.specs.Shown.{Shown, IsSound, Grows, MakesOnly, KnowsAs, Faults};
+ghost use Rattle.spd_nodes.specs.Shown.{Shown, IsSound, MakesTree};
 ghost use Rattle.spd_apply.specs.Halves.{pair_rank};
-ghost use Rattle.spd_apply.specs.Rules.{HoldsAnswers, IsAnswer, IsReady, Did, IsBelow, below_tree};
+ghost use Rattle.spd_apply.specs.Rules.{HoldsAnswers, IsAnswer, IsReady, IsBelow, IsNodeAt, below_tree};
 
-use crate::rule::{Below, OpFault, Plan, Rule};
+use crate::rule::{Below, Descent, Node, OpFault, Plan};
 use spd_memo::Memo;
 use spd_nodes::{Forest, Ref, Steps};
 use std::alloc::Global;
@@ -14,11 +16,17 @@ use std::sync::ledger::Ledger;
 
 /// The answer that a memo keeps. None comes exactly where it keeps none.
 #[tactic(auto, using(crate::proofs::MemoLaws::answer_laws))]
-fn recall<F: Forest, R: Rule>(forest: &F, rule: &R, f: Ref, g: Ref, memo: &mut Memo) -> Option<Ref>
-    requires { HoldsAnswers (R.making rule.now) (F.shows forest.now) memo.old }
+fn recall<F: Forest, D: Descent>(
+    forest: &F,
+    rule: &D,
+    f: Ref,
+    g: Ref,
+    memo: &mut Memo,
+) -> Option<Ref>
+    requires { HoldsAnswers (D.making rule.now) (F.shows forest.now) memo.old }
     ensures kept { result ≡ answer_in memo.old.pairs f g }
-    ensures answer { IfSome result (λ r. IsAnswer (R.making rule.now) (F.shows forest.now) f g r) }
-    ensures memo { HoldsAnswers (R.making rule.now) (F.shows forest.now) memo.new }
+    ensures answer { IfSome result (λ r. IsAnswer (D.making rule.now) (F.shows forest.now) f g r) }
+    ensures memo { HoldsAnswers (D.making rule.now) (F.shows forest.now) memo.new }
     ensures capacity { memo.new.capacity ≡ memo.old.capacity }
 {
     memo.get(f, g)
@@ -26,20 +34,20 @@ fn recall<F: Forest, R: Rule>(forest: &F, rule: &R, f: Ref, g: Ref, memo: &mut M
 
 /// Keeps an answer.
 #[tactic(auto, using(crate::proofs::MemoLaws::answer_laws))]
-fn keep<F: Forest, R: Rule>(
+fn keep<F: Forest, D: Descent>(
     forest: &F,
-    rule: &R,
+    rule: &D,
     f: Ref,
     g: Ref,
     r: Ref,
     memo: &mut Memo,
 ) -> Result<Ref, OpFault>
-    requires memo { HoldsAnswers (R.making rule.now) (F.shows forest.now) memo.old }
-    requires answer { IsAnswer (R.making rule.now) (F.shows forest.now) f g r }
+    requires memo { HoldsAnswers (D.making rule.now) (F.shows forest.now) memo.old }
+    requires answer { IsAnswer (D.making rule.now) (F.shows forest.now) f g r }
     ensures same { IfOk result (λ q. q ≡ r) }
     ensures kept { OnOk result (memo.new ≡ put_in memo.old f g r) }
     ensures memory { IfErr result (λ e. e ≡ StoreFault.Memory) }
-    ensures memo { HoldsAnswers (R.making rule.now) (F.shows forest.now) memo.new }
+    ensures memo { HoldsAnswers (D.making rule.now) (F.shows forest.now) memo.new }
     ensures capacity { memo.new.capacity ≡ memo.old.capacity }
 {
     match memo.put(f, g, r) {
@@ -48,75 +56,108 @@ fn keep<F: Forest, R: Rule>(
     }
 }
 
+/// A diagram with its root.
+fn node<F: Forest>(forest: &mut F, name: Ref) -> Node
+    requires { (F.shows forest.old).knows name ≡ true }
+    ensures same { F.shows forest.new ≡ F.shows forest.old }
+    ensures keeps { F.kept forest.new ≡ F.kept forest.old }
+    ensures name { result.name ≡ name }
+    ensures root { IsNodeAt (F.shows forest.old) result }
+{
+    Node {
+        name,
+        root: forest.view(name),
+    }
+}
+
+/// Two diagrams with their roots. One that is given twice is viewed once.
+fn nodes<F: Forest>(forest: &mut F, f: Ref, g: Ref) -> (Node, Node)
+    requires left { (F.shows forest.old).knows f ≡ true }
+    requires right { (F.shows forest.old).knows g ≡ true }
+    ensures same { F.shows forest.new ≡ F.shows forest.old }
+    ensures keeps { F.kept forest.new ≡ F.kept forest.old }
+    ensures left_name { result.0.name ≡ f }
+    ensures right_name { result.1.name ≡ g }
+    ensures left { IsNodeAt (F.shows forest.old) result.0 }
+    ensures right { IsNodeAt (F.shows forest.old) result.1 }
+{
+    let left = node(forest, f);
+    if f == g {
+        return (left, left);
+    }
+    (left, node(forest, g))
+}
+
 /// Makes what a rule makes of two Refs, each pair once as long as the memo keeps it. Each call of a pair goes down at least
 /// one level, so calls nest at most three deep a level, and there are at most 512 levels.
 #[cycle(make)]
-pub fn make_pair<F: Forest, R: Rule, L: Ledger>(
+pub fn make_pair<F: Forest, D: Descent, L: Ledger>(
     forest: &mut F,
-    rule: &R,
+    rule: &D,
     f: Ref,
     g: Ref,
     memo: &mut Memo,
     steps: &mut Steps<L>,
 ) -> Result<Ref, OpFault>
-    requires { IsReady (R.making rule.now) (R.may rule.now (F.shows forest.old).sizes) (F.shows forest.old) f g memo.old }
-    ensures did { Did (R.making rule.now) (F.shows forest.old) (F.shows forest.new) (R.making rule.now ((F.shows forest.old).tree f) ((F.shows forest.old).tree g)) memo.new }
+    requires { IsReady (D.making rule.now) (D.may rule.now (F.shows forest.old).sizes) (F.shows forest.old) f g memo.old }
+    ensures made { MakesTree (F.shows forest.old) (F.shows forest.new) (D.making rule.now ((F.shows forest.old).tree f) ((F.shows forest.old).tree g)) result }
     ensures keeps { F.kept forest.new ≡ F.kept forest.old }
-    ensures ok { IfOk result (λ r. KnowsAs (F.shows forest.new) r (R.making rule.now ((F.shows forest.old).tree f) ((F.shows forest.old).tree g))) }
-    ensures fault { IfErr result (λ e. Faults e (F.shows forest.new) (R.making rule.now ((F.shows forest.old).tree f) ((F.shows forest.old).tree g) ∷ [])) }
+    ensures memo { HoldsAnswers (D.making rule.now) (F.shows forest.new) memo.new }
     ensures capacity { memo.new.capacity ≡ memo.old.capacity }
 {
     if let Some(r) = recall(forest, rule, f, g, memo) {
         return Ok(r);
     }
-    let r = make_anew(forest, rule, f, g, memo, steps)?;
+    let (left, right) = nodes(forest, f, g);
+    let r = make_anew(forest, rule, left, right, memo, steps)?;
     keep(forest, rule, f, g, r, memo)
 }
 
 /// The same, where the memo has no answer.
 #[cycle(make)]
-fn make_anew<F: Forest, R: Rule, L: Ledger>(
+fn make_anew<F: Forest, D: Descent, L: Ledger>(
     forest: &mut F,
-    rule: &R,
-    f: Ref,
-    g: Ref,
+    rule: &D,
+    f: Node,
+    g: Node,
     memo: &mut Memo,
     steps: &mut Steps<L>,
 ) -> Result<Ref, OpFault>
-    requires { IsReady (R.making rule.now) (R.may rule.now (F.shows forest.old).sizes) (F.shows forest.old) f g memo.old }
-    ensures did { Did (R.making rule.now) (F.shows forest.old) (F.shows forest.new) (R.making rule.now ((F.shows forest.old).tree f) ((F.shows forest.old).tree g)) memo.new }
+    requires ready { IsReady (D.making rule.now) (D.may rule.now (F.shows forest.old).sizes) (F.shows forest.old) f.name g.name memo.old }
+    requires left { IsNodeAt (F.shows forest.old) f }
+    requires right { IsNodeAt (F.shows forest.old) g }
+    ensures made { MakesTree (F.shows forest.old) (F.shows forest.new) (D.making rule.now ((F.shows forest.old).tree f.name) ((F.shows forest.old).tree g.name)) result }
     ensures keeps { F.kept forest.new ≡ F.kept forest.old }
-    ensures ok { IfOk result (λ r. KnowsAs (F.shows forest.new) r (R.making rule.now ((F.shows forest.old).tree f) ((F.shows forest.old).tree g))) }
-    ensures fault { IfErr result (λ e. Faults e (F.shows forest.new) (R.making rule.now ((F.shows forest.old).tree f) ((F.shows forest.old).tree g) ∷ [])) }
+    ensures memo { HoldsAnswers (D.making rule.now) (F.shows forest.new) memo.new }
     ensures capacity { memo.new.capacity ≡ memo.old.capacity }
 {
     match rule.plan(forest, f, g) {
-        Plan::Bottom => rule.bottom(forest, f, g, steps),
+        Plan::Leaf(leaf) => forest.leaf(leaf, steps),
         Plan::Below(below) => make_below(forest, rule, below, memo, steps),
         Plan::Test { level, yes, no } => {
             let yes = make_below(forest, rule, yes, memo, steps)?;
             let no = make_below(forest, rule, no, memo, steps)?;
             forest.test(level, yes, no, steps)
         }
+        Plan::Bottom => rule.bottom(forest, f, g, steps),
     }
 }
 
 /// Makes what is below.
 #[cycle(make)]
-fn make_below<F: Forest, R: Rule, L: Ledger>(
+fn make_below<F: Forest, D: Descent, L: Ledger>(
     forest: &mut F,
-    rule: &R,
+    rule: &D,
     below: Below,
     memo: &mut Memo,
     steps: &mut Steps<L>,
 ) -> Result<Ref, OpFault>
     requires sound { IsSound (F.shows forest.old) }
-    requires below { IsBelow (R.may rule.now (F.shows forest.old).sizes) (F.shows forest.old) below }
-    requires memo { HoldsAnswers (R.making rule.now) (F.shows forest.old) memo.old }
-    ensures did { Did (R.making rule.now) (F.shows forest.old) (F.shows forest.new) (below_tree (R.making rule.now) (F.shows forest.old) below) memo.new }
+    requires below { IsBelow (D.may rule.now (F.shows forest.old).sizes) (F.shows forest.old) below }
+    requires memo { HoldsAnswers (D.making rule.now) (F.shows forest.old) memo.old }
+    ensures made { MakesTree (F.shows forest.old) (F.shows forest.new) (below_tree (D.making rule.now) (F.shows forest.old) below) result }
     ensures keeps { F.kept forest.new ≡ F.kept forest.old }
-    ensures ok { IfOk result (λ r. KnowsAs (F.shows forest.new) r (below_tree (R.making rule.now) (F.shows forest.old) below)) }
-    ensures fault { IfErr result (λ e. Faults e (F.shows forest.new) (below_tree (R.making rule.now) (F.shows forest.old) below ∷ [])) }
+    ensures memo { HoldsAnswers (D.making rule.now) (F.shows forest.new) memo.new }
     ensures capacity { memo.new.capacity ≡ memo.old.capacity }
 {
     match below {
@@ -125,24 +166,20 @@ fn make_below<F: Forest, R: Rule, L: Ledger>(
     }
 }
 
-/// The same with a memo of its own, which keeps all pairs.
-pub fn make_alone<F: Forest, R: Rule, L: Ledger>(
+/// The same as `make_pair` with a memo of its own, which keeps all pairs.
+pub fn make_alone<F: Forest, D: Descent, L: Ledger>(
     alloc: Global,
     forest: &mut F,
-    rule: &R,
+    rule: &D,
     f: Ref,
     g: Ref,
     steps: &mut Steps<L>,
 ) -> Result<Ref, OpFault>
     requires left { (F.shows forest.old).knows f ≡ true }
     requires right { (F.shows forest.old).knows g ≡ true }
-    requires may { R.may rule.now (F.shows forest.old).sizes ((F.shows forest.old).tree f) ((F.shows forest.old).tree g) }
-    ensures sound { IsSound (F.shows forest.new) }
-    ensures grows { Grows (F.shows forest.old) (F.shows forest.new) }
+    requires may { D.may rule.now (F.shows forest.old).sizes ((F.shows forest.old).tree f) ((F.shows forest.old).tree g) }
+    ensures made { MakesTree (F.shows forest.old) (F.shows forest.new) (D.making rule.now ((F.shows forest.old).tree f) ((F.shows forest.old).tree g)) result }
     ensures keeps { F.kept forest.new ≡ F.kept forest.old }
-    ensures ok { IfOk result (λ r. KnowsAs (F.shows forest.new) r (R.making rule.now ((F.shows forest.old).tree f) ((F.shows forest.old).tree g))) }
-    ensures makes { MakesOnly (F.shows forest.old) (F.shows forest.new) (R.making rule.now ((F.shows forest.old).tree f) ((F.shows forest.old).tree g) ∷ []) }
-    ensures fault { IfErr result (λ e. Faults e (F.shows forest.new) (R.making rule.now ((F.shows forest.old).tree f) ((F.shows forest.old).tree g) ∷ [])) }
 {
     let _ = forest.layout();
     match Memo::new(alloc, usize::MAX) {

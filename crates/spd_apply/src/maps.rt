@@ -1,3 +1,5 @@
+//! The maps of leaves that take a Pair or an Act apart.
+
 ghost use Rattle.std.specs.Prelude.{◌≡◌};
 ghost use Rattle.spd_apply.specs.Operations.{is_pair, first_of_pair, second_of_pair, is_pair_with_act, second_as_act, is_act, act_number};
 

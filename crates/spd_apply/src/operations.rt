@@ -1,3 +1,5 @@
+//! The operations on two leaves.
+
 ghost use Rattle.std.specs.Prelude.{◌≡◌, ◌+ℤ◌, ◌-ℤ◌, ◌*ℤ◌};
 ghost use Rattle.std.specs.Int.{int_max, int_min};
 ghost use Rattle.spd_apply.specs.Operations.{are_nums, num_of, num_fits, pair_of, are_pairs, first_greater, is_pair_and_num, kept_of};

@@ -1,27 +1,11 @@
-ghost use Rattle.std.specs.Prelude.{◌≡◌, pos, ◌<ℤ◌, ◌*ℤ◌};
-ghost use Rattle.std.specs.Int.{int_div_euclid, int_rem_euclid};
-ghost use Rattle.spd_apply.specs.Rounding.{ceiling, by_fits, floor_by, ceil_by, times_fits, times_floor, times_ceil};
+//! The maps of leaves that divide and round.
+
+ghost use Rattle.std.specs.Prelude.{◌≡◌};
+ghost use Rattle.spd_apply.specs.Rounding.{by_fits, floor_by, ceil_by, times_fits, times_floor, times_ceil};
 
 use crate::leaf_op::LeafMap;
 use spd_nodes::Leaf;
-
-/// `n / d`, rounded up.
-fn ceil_div(n: i128, d: i128) -> i128
-    requires { pos 0 <ℤ d }
-    ensures { result ≡ ceiling n d }
-{
-    ceil_from(n, d, n.div_euclid(d), n.rem_euclid(d))
-}
-
-/// `n / d` rounded up, from the quotient rounded down and the remainder.
-fn ceil_from(_n: i128, _d: i128, floor: i128, remainder: i128) -> i128
-    requires divisor { pos 0 <ℤ _d }
-    requires floor { floor ≡ int_div_euclid _n _d }
-    requires remainder { remainder ≡ int_rem_euclid _n _d }
-    ensures { result ≡ ceiling _n _d }
-{
-    if remainder > 0 { floor + 1 } else { floor }
-}
+use spd_scaled::{ceil_div, floor_div};
 
 /// A Num divided by a number above 0, rounded down.
 #[derive(Clone, Copy, Debug)]
@@ -41,7 +25,7 @@ impl LeafMap for FloorBy {
 
     fn of(&self, a: Leaf) -> Leaf {
         match a {
-            Leaf::Num(x) => Leaf::Num(x.div_euclid(self.0)),
+            Leaf::Num(x) => Leaf::Num(floor_div(x, self.0)),
             _ => a,
         }
     }
@@ -92,7 +76,7 @@ impl LeafMap for TimesFloor {
 
     fn of(&self, a: Leaf) -> Leaf {
         match a {
-            Leaf::Num(x) => Leaf::Num((self.g * x).div_euclid(self.gd)),
+            Leaf::Num(x) => Leaf::Num(floor_div(self.g * x, self.gd)),
             _ => a,
         }
     }
@@ -119,7 +103,10 @@ impl LeafMap for TimesCeil {
 
     fn of(&self, a: Leaf) -> Leaf {
         match a {
-            Leaf::Num(x) => Leaf::Num(ceil_div(self.g * x, self.gd)),
+            Leaf::Num(x) => {
+                let product = self.g * x;
+                Leaf::Num(ceil_div(product, self.gd))
+            }
             _ => a,
         }
     }

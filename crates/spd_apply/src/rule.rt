@@ -1,13 +1,22 @@
-ghost use Rattle.std.specs.Prelude.{◌≡◌, ℕ, List, [], ◌∷◌, IfOk, IfErr, true};
-ghost use Rattle.spd_nodes.specs.Trees.{Tree};
-ghost use Rattle.spd_nodes.specs.Shown.{Shown, IsSound, Grows, KnowsAs, MakesOnly, Faults};
-ghost use Rattle.spd_apply.specs.Rules.{IsPlan};
+//! How an operation on diagrams goes down from the roots of two of them.
 
-use spd_nodes::{Forest, Level, Ref, Steps, StoreFault};
+ghost use Rattle.std.specs.Prelude.{◌≡◌, ℕ, List, true};
+ghost use Rattle.spd_nodes.specs.Trees.{Tree};
+ghost use Rattle.spd_nodes.specs.Shown.{Shown, IsSound, MakesTree};
+ghost use Rattle.spd_apply.specs.Rules.{IsNodeAt, IsPlan};
+
+use spd_nodes::{Forest, Leaf, Level, Ref, Steps, StoreFault, View};
 use std::sync::ledger::Ledger;
 
 /// An operation fails as its forest does: it answers Full only where a call of the forest answered Full in this call.
 pub type OpFault = StoreFault;
+
+/// A diagram with its root, which was viewed.
+#[derive(Clone, Copy)]
+pub struct Node {
+    pub name: Ref,
+    pub root: View,
+}
 
 /// What an operation makes below a test.
 #[derive(Clone, Copy)]
@@ -18,15 +27,17 @@ pub enum Below {
     Pair(Ref, Ref),
 }
 
-/// What an operation makes of two Refs.
+/// What an operation makes of two diagrams.
 #[derive(Clone, Copy)]
 pub enum Plan {
-    /// It goes no further, and makes its answer by calls of the forest alone.
-    Bottom,
+    /// This leaf.
+    Leaf(Leaf),
     /// What it makes below.
     Below(Below),
     /// A test of what it makes below.
     Test { level: Level, yes: Below, no: Below },
+    /// Several nodes at once: it goes no further, and makes them by calls of the forest alone.
+    Bottom,
 }
 
 /// An operation that makes a diagram of two, by going down from their roots (Bryant, 1986). One that takes a single diagram
@@ -38,36 +49,69 @@ pub trait Rule {
     /// Which trees it may meet, where the variables have these numbers of values.
     ghost may: { Self → List ℕ → Tree → Tree → Type 0 };
 
+    /// How it goes on from two diagrams. It never answers `Bottom`.
+    fn plan<F: Forest>(&self, forest: &F, f: Node, g: Node) -> Plan
+        requires sound { IsSound (F.shows forest.now) }
+        requires left { IsNodeAt (F.shows forest.now) f }
+        requires right { IsNodeAt (F.shows forest.now) g }
+        requires may { may self.now (F.shows forest.now).sizes ((F.shows forest.now).tree f.name) ((F.shows forest.now).tree g.name) }
+        ensures plan { IsPlan (making self.now) (may self.now (F.shows forest.now).sizes) (λ _ _. ⊥) (F.shows forest.now) f.name g.name result };
+}
+
+/// A rule that ends at some diagrams in several nodes at once.
+pub trait Descent {
+    /// What it makes of two trees.
+    ghost making: { Self → Tree → Tree → Tree };
+
+    /// Which trees it may meet, where the variables have these numbers of values.
+    ghost may: { Self → List ℕ → Tree → Tree → Type 0 };
+
     /// Of which trees it goes no further.
     ghost ends: { Self → List ℕ → Tree → Tree → Type 0 };
 
-    /// How it goes on from two Refs. It looks at no more than their roots.
-    fn plan<F: Forest>(&self, forest: &mut F, f: Ref, g: Ref) -> Plan
-        requires sound { IsSound (F.shows forest.old) }
-        requires left { (F.shows forest.old).knows f ≡ true }
-        requires right { (F.shows forest.old).knows g ≡ true }
-        requires may { may self.now (F.shows forest.old).sizes ((F.shows forest.old).tree f) ((F.shows forest.old).tree g) }
-        ensures same { F.shows forest.new ≡ F.shows forest.old }
-        ensures keeps { F.kept forest.new ≡ F.kept forest.old }
-        ensures plan { IsPlan (making self.now) (may self.now (F.shows forest.old).sizes) (ends self.now (F.shows forest.old).sizes) (F.shows forest.old) f g result };
+    /// How it goes on from two diagrams.
+    fn plan<F: Forest>(&self, forest: &F, f: Node, g: Node) -> Plan
+        requires sound { IsSound (F.shows forest.now) }
+        requires left { IsNodeAt (F.shows forest.now) f }
+        requires right { IsNodeAt (F.shows forest.now) g }
+        requires may { may self.now (F.shows forest.now).sizes ((F.shows forest.now).tree f.name) ((F.shows forest.now).tree g.name) }
+        ensures plan { IsPlan (making self.now) (may self.now (F.shows forest.now).sizes) (ends self.now (F.shows forest.now).sizes) (F.shows forest.now) f.name g.name result };
 
-    /// What it makes of two Refs from which it goes no further.
+    /// What it makes of two diagrams from which it goes no further.
     fn bottom<F: Forest, L: Ledger>(
         &self,
         forest: &mut F,
-        f: Ref,
-        g: Ref,
+        f: Node,
+        g: Node,
         steps: &mut Steps<L>,
     ) -> Result<Ref, OpFault>
         requires sound { IsSound (F.shows forest.old) }
-        requires left { (F.shows forest.old).knows f ≡ true }
-        requires right { (F.shows forest.old).knows g ≡ true }
-        requires may { may self.now (F.shows forest.old).sizes ((F.shows forest.old).tree f) ((F.shows forest.old).tree g) }
-        requires ends { ends self.now (F.shows forest.old).sizes ((F.shows forest.old).tree f) ((F.shows forest.old).tree g) }
-        ensures sound { IsSound (F.shows forest.new) }
-        ensures grows { Grows (F.shows forest.old) (F.shows forest.new) }
-        ensures keeps { F.kept forest.new ≡ F.kept forest.old }
-        ensures ok { IfOk result (λ r. KnowsAs (F.shows forest.new) r (making self.now ((F.shows forest.old).tree f) ((F.shows forest.old).tree g))) }
-        ensures makes { MakesOnly (F.shows forest.old) (F.shows forest.new) (making self.now ((F.shows forest.old).tree f) ((F.shows forest.old).tree g) ∷ []) }
-        ensures fault { IfErr result (λ e. Faults e (F.shows forest.new) (making self.now ((F.shows forest.old).tree f) ((F.shows forest.old).tree g) ∷ [])) };
+        requires left { IsNodeAt (F.shows forest.old) f }
+        requires right { IsNodeAt (F.shows forest.old) g }
+        requires may { may self.now (F.shows forest.old).sizes ((F.shows forest.old).tree f.name) ((F.shows forest.old).tree g.name) }
+        requires ends { ends self.now (F.shows forest.old).sizes ((F.shows forest.old).tree f.name) ((F.shows forest.old).tree g.name) }
+        ensures made { MakesTree (F.shows forest.old) (F.shows forest.new) (making self.now ((F.shows forest.old).tree f.name) ((F.shows forest.old).tree g.name)) result }
+        ensures keeps { F.kept forest.new ≡ F.kept forest.old };
+}
+
+impl<R: Rule> Descent for R {
+    ghost making = { λ r. R.making r };
+
+    ghost may = { λ r sizes t u. R.may r sizes t u };
+
+    ghost ends = { λ _ _ _ _. ⊥ };
+
+    fn plan<F: Forest>(&self, forest: &F, f: Node, g: Node) -> Plan {
+        Rule::plan(self, forest, f, g)
+    }
+
+    fn bottom<F: Forest, L: Ledger>(
+        &self,
+        _forest: &mut F,
+        _f: Node,
+        _g: Node,
+        _steps: &mut Steps<L>,
+    ) -> Result<Ref, OpFault> {
+        unreachable!()
+    }
 }

@@ -1,3 +1,5 @@
+//! Each operation once.
+
 ghost use Rattle.std.specs.Prelude.{◌≡◌, ℕ, ◌<◌, ◌∷◌, []};
 
 use crate::binary::apply;

@@ -1,12 +1,13 @@
-ghost use Rattle.std.specs.Prelude.{◌≡◌, ℕ, [], ◌∷◌, IfOk, IfErr, true};
-ghost use Rattle.spd_nodes.specs.Shown.{Shown, IsSound, Grows, IsWhole, StandsFor, MakesNodesOf, FaultsAt, meaning};
-ghost use Rattle.spd_apply.specs.Halves.{IsLeaf};
+//! A map of leaves, carried out on a diagram.
+
+ghost use Rattle.std.specs.Prelude.{◌≡◌, ℕ, true};
+ghost use Rattle.spd_nodes.specs.Shown.{Shown, IsWhole, MakesDiagram, meaning};
 ghost use Rattle.spd_apply.specs.Applied.{mapped, EachFits};
 ghost use Rattle.spd_apply.specs.Outcome.{FitsEverywhere, map_each};
 
 use crate::leaf_op::LeafMap;
 use crate::make::make_alone;
-use crate::rule::{Below, OpFault, Plan, Rule};
+use crate::rule::{Below, Node, OpFault, Plan, Rule};
 use spd_nodes::{Forest, Ref, Steps, View};
 use std::alloc::Global;
 use std::sync::ledger::Ledger;
@@ -22,29 +23,14 @@ impl<'a, M: LeafMap> Rule for EachLeaf<'a, M> {
 
     ghost may = { λ r sizes t u. EachFits (M.fits r.map.now) t };
 
-    ghost ends = { λ r sizes t u. IsLeaf t };
-
-    fn plan<F: Forest>(&self, forest: &mut F, f: Ref, g: Ref) -> Plan {
-        match forest.view(f) {
-            View::Leaf(_) => Plan::Bottom,
+    fn plan<F: Forest>(&self, _forest: &F, f: Node, _g: Node) -> Plan {
+        match f.root {
+            View::Leaf(a) => Plan::Leaf(self.map.of(a)),
             View::Test { level, yes, no } => Plan::Test {
                 level,
                 yes: Below::Pair(yes, yes),
                 no: Below::Pair(no, no),
             },
-        }
-    }
-
-    fn bottom<F: Forest, L: Ledger>(
-        &self,
-        forest: &mut F,
-        f: Ref,
-        g: Ref,
-        steps: &mut Steps<L>,
-    ) -> Result<Ref, OpFault> {
-        match forest.view(f) {
-            View::Leaf(a) => forest.leaf(self.map.of(a), steps),
-            View::Test { .. } => unreachable!(),
         }
     }
 }
@@ -63,12 +49,8 @@ pub fn map_leaves<F: Forest, M: LeafMap, L: Ledger>(
     requires whole { IsWhole (F.shows forest.old) f }
     requires fits { FitsEverywhere (M.fits map.now) (F.shows forest.old) f }
 
-    ensures sound { IsSound (F.shows forest.new) }
-    ensures grows { Grows (F.shows forest.old) (F.shows forest.new) }
+    ensures made { MakesDiagram (F.shows forest.old) (F.shows forest.new) (map_each (M.of map.now) (meaning (F.shows forest.old) f)) result }
     ensures keeps { F.kept forest.new ≡ F.kept forest.old }
-    ensures ok { IfOk result (λ r. StandsFor (F.shows forest.new) r (map_each (M.of map.now) (meaning (F.shows forest.old) f))) }
-    ensures makes { MakesNodesOf (F.shows forest.old) (F.shows forest.new) (map_each (M.of map.now) (meaning (F.shows forest.old) f) ∷ []) }
-    ensures fault { IfErr result (λ e. FaultsAt e (F.shows forest.new) (map_each (M.of map.now) (meaning (F.shows forest.old) f) ∷ [])) }
 {
     let _ = forest.layout();
     make_alone(alloc, forest, &EachLeaf { map }, f, f, steps)

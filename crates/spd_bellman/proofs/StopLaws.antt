@@ -1,9 +1,8 @@
 -- The stop of a run is the first turn at which its rule holds, or its last one.
-use Rattle.std.proofs.Common.{◌≡◌, ℕ, ◌+◌, ◌<◌, ◌≤◌, Bool, true, false, if◌then◌else◌, refl, ap, sym, ◌∙◌, subst, inl, inr, arith}
+use Rattle.std.proofs.Common.{◌≡◌, ℕ, Bool, true, false, if◌then◌else◌, refl, sym, ◌∙◌, inl, inr, arith}
 use Rattle.std.proofs.lemmas.Bool.{cases_lt, false≢true}
-use Rattle.spd_model.specs.declared.Why.{Why}
 use Rattle.spd_model.specs.declared.Why.TheVariants.{Done, Limit}
-use Rattle.spd_model.specs.Stops.{Stop, first_from, first_stop, IsFirstStop}
+use Rattle.spd_model.specs.Stops.{first_from, first_stop, IsFirstStop}
 use Rattle.spd_model.proofs.CallerLemmas.Finds.{first_from_within, first_from_before, first_from_holds}
 
 done_by : (b : Bool) → (if b then Done else Limit) ≡ Done → b ≡ true

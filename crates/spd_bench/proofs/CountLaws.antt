@@ -12,8 +12,8 @@ use Rattle.spd_nodes.specs.Shown.{Shown, IsSound, Grows, KnowsAs, IsWhole, Stand
 use Rattle.spd_apply.specs.Applied.{applied, mapped, against}
 use Rattle.spd_apply.specs.Operations.{num_of, num_fits, are_nums}
 use Rattle.spd_apply.specs.Outcome.{FitEverywhere, at_each}
-use Rattle.spd_apply.proofs.HalfLaws.{IsFrom-lower}
-use Rattle.spd_apply.proofs.WholeLaws.{made-tree, apply-reduced, apply-whole, apply-value}
+use Rattle.spd_nodes.proofs.CallerLemmas.{tree-for, IsFrom-lower}
+use Rattle.spd_apply.proofs.CallerLemmas.{apply-tree}
 use Rattle.spd_restrict.specs.Primed.{is_plain_level, TestsNoPrimed}
 use Rattle.spd_bench.specs.Built.{twos, is_num_to, CountsTo, IsCount, FitsTo, IsApplied}
 use Rattle.spd_bench.proofs.TwoLaws.{level-twos, after-twos, first-twos, plain-twos}
@@ -169,8 +169,7 @@ pub applied-made : (op : Leaf → Leaf → Leaf) (s t : Shown) (f g : Entry) {r 
 applied-made op s t f g {r = r} o kf kg wf wg w h = record {
   knows = h.knows;
   whole = h.whole;
-  tree = h.tree ∙ rw (w.sizes) (sym (made-tree s t o _ _
-      (apply-reduced (λ a b. true) op s o f g kf kg wf wg) (apply-whole (λ a b. true) op s o f g kf kg wf wg) (apply-value (λ a b. true) op s o f g kf kg wf wg)));
+  tree = h.tree ∙ rw (w.sizes) (sym (tree-for o (apply-tree (λ a b. true) op s o f g kf kg wf wg)));
 }
 
 pub count-sum : {s t : Shown} (a b : ℕ) {f g r : Entry} → Grows s t → IsCount s a 0 f → IsCount s b 0 g → IsApplied (λ x y. num_of (λ x y. x +ℤ y) x y) s t f g r → IsCount t (a + b) 0 r

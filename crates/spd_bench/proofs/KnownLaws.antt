@@ -5,7 +5,7 @@ use Rattle.spd_cons_core.specs.declared.key.Entry.{Entry}
 use Rattle.spd_nodes.specs.declared.leaf.Leaf.{Leaf}
 use Rattle.spd_nodes.specs.Trees.{Ends}
 use Rattle.spd_nodes.specs.Shown.{Shown, Grows, KnowsAs}
-use Rattle.spd_nodes.proofs.ShownLaws.{grows-none, grows-then}
+use Rattle.spd_nodes.proofs.CallerLemmas.{grows-none, grows-then}
 use Rattle.spd_bench.specs.Built.{IsKnownLeaf}
 
 pub known-leaf : {s : Shown} {r : Entry} {a : Leaf} → KnowsAs s r (Ends a) → IsKnownLeaf s r

@@ -3,7 +3,7 @@ use Rattle.std.proofs.Common.{◌≡◌, ℕ, zero, suc, ◌+◌, ◌-◌, ◌*�
 use Rattle.std.specs.Prelude.{nat_lt}
 use Rattle.std.proofs.lemmas.Bool.Decides.{nat_tests}
 use Rattle.spd_nodes.specs.Levels.{levels_of, after, is_first, slots, level_at}
-use Rattle.spd_nodes.proofs.LayoutLaws.{level-plain}
+use Rattle.spd_nodes.proofs.CallerLemmas.{level-plain}
 use Rattle.spd_restrict.specs.Primed.{is_plain_level}
 use Rattle.spd_bench.specs.Built.{twos}
 

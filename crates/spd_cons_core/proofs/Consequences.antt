@@ -1,15 +1,15 @@
 -- What follows from the invariant.
-use Rattle.std.proofs.Common.{to_z, ◌↔◌, ◌&&◌, ◌≡◌, ◌≢◌, ◌⊎◌, ℕ, ◌+◌, ◌*◌, ◌^◌, ◌<◌, ◌≤◌, ℤ, Bool, true, false, cond, eqb, length, get_or, set, refl, sym, ap, ◌∙◌, subst, inl, inr, arith, FitsSigned}
+use Rattle.std.proofs.Common.{to_z, ◌↔◌, ◌&&◌, ◌≡◌, ◌≢◌, ◌⊎◌, ℕ, ◌+◌, ◌*◌, ◌^◌, ◌<◌, ◌≤◌, ℤ, Bool, true, false, cond, eqb, List, [], ◌∷◌, length, get_or, set, sum_by, count_by, suc, refl, sym, ap, ◌∙◌, subst, inl, inr, ⊎_elim, arith, FitsSigned}
 use Rattle.std.specs.List.{All, Contains}
 use Rattle.std.specs.Int.{w128, cast_unsigned}
-use Rattle.std.proofs.lemmas.Bool.{true≢false, eqb-false, eqb-true, eq-eqb, and_from, and_parts, cases_Bool}
+use Rattle.std.proofs.lemmas.Bool.{true≢false, eqb-false, eqb-true, eq-eqb, and_from, and_parts, cases_Bool, cases_eq}
 use Rattle.std.proofs.lemmas.Bool.Decides.{Decides-int_eq}
 use Rattle.std.specs.Ordering.{int_eq}
 use Rattle.std.proofs.lemmas.Int.{to_z-of_z}
 use Rattle.std.proofs.lemmas.Nat.{shr_split}
 use Rattle.std.proofs.lemmas.List.{get_or-set_other}
 use Rattle.std.proofs.lemmas.List.Elements.{All-from_get_or}
-use Rattle.std.proofs.lemmas.List.Sums.{sum_by-set, sum_by-le, get_or-le-sum_by}
+use Rattle.std.proofs.lemmas.List.Sums.{sum_by-set, sum_by-cons, sum_by-le, sum_by-le-sum_by, get_or-le-sum_by}
 use Rattle.spd_cons_core.specs.declared.key.Entry.{Entry}
 use Rattle.spd_cons_core.specs.declared.key.Key.{Key}
 use Rattle.spd_cons_core.specs.declared.key.Key.TheVariants.{Test, Num, Pair, Act}
@@ -17,8 +17,9 @@ use Rattle.spd_cons_core.specs.declared.mind.Known.{Known}
 use Rattle.spd_cons_core.specs.Views.{Seat, Machine}
 use Rattle.spd_cons_core.specs.Spelling.{words_of, low, high, IsKey}
 use Rattle.spd_cons_core.specs.Seats.{spent, seat_at, bucket, Names, entry, entry_words, same_key}
-use Rattle.spd_cons_core.specs.Invariants.{IsSound, total, shares}
-use Rattle.spd_cons_core.proofs.Writes.{set_cases, live_within, share_of, share_live}
+use Rattle.spd_cons_core.specs.Invariants.{IsSound, total, times_listed, filled, shares}
+use Rattle.spd_cons_core.proofs.Writes.{set_cases, live_within, share_of, share_live, share_spent}
+use Rattle.spd_cons_core.proofs.Knowledge.{contains_cons, known_at}
 
 -- The words tell keys apart ---------------------------------------------------------------------
 
@@ -115,6 +116,86 @@ full_table c sound i live ended all =
     let counted = sound.all_counted in
     let listed = sound.all_listed in
     omega arith
+
+-- where a seat has met the end, whatever seats there are besides
+share_stands : (s : Seat) → share_of (λ x. x.stands) s ≤ share_of shares s
+share_stands s = by_case s.live s.stands s.splits
+  where
+    by_case : (a : Bool) (m n : ℕ) → cond a m 0 ≤ cond a (m + n) 0
+    by_case true m n = omega arith
+    by_case false m n = omega arith
+
+-- every live seat counts no more entries than the seats that it stands for
+counts_below : (c : Machine) → IsSound c → (j : ℕ) → share_of (λ s. s.unpublished) (seat_at c j) ≤ share_of (λ s. s.stands) (seat_at c j)
+counts_below c sound j = by_case (cases_Bool (seat_at c j).live)
+  where
+    by_case : ((seat_at c j).live ≡ true) ⊎ ((seat_at c j).live ≡ false) → share_of (λ s. s.unpublished) (seat_at c j) ≤ share_of (λ s. s.stands) (seat_at c j)
+    by_case (inl live) =
+        let a = share_live (λ s. s.unpublished) (seat_at c j) live in
+        let b = share_live (λ s. s.stands) (seat_at c j) live in
+        let low = (sound.seats j live).unpublished in omega arith
+    by_case (inr spent) =
+        let a = share_spent (λ s. s.unpublished) (seat_at c j) spent in
+        let b = share_spent (λ s. s.stands) (seat_at c j) spent in omega arith
+
+sums_below : (l : List Seat) → ((j : ℕ) → share_of (λ s. s.unpublished) (get_or l j spent) ≤ share_of (λ s. s.stands) (get_or l j spent)) → sum_by (share_of (λ s. s.unpublished)) l ≤ sum_by (share_of (λ s. s.stands)) l
+sums_below [] each = omega arith
+sums_below (x ∷ xs) each =
+    let here : share_of (λ s. s.unpublished) x ≤ share_of (λ s. s.stands) x = each 0 in
+    let rest = sums_below xs (λ j. each (suc j)) in
+    let low : sum_by (share_of (λ s. s.unpublished)) (x ∷ xs) ≡ share_of (λ s. s.unpublished) x + sum_by (share_of (λ s. s.unpublished)) xs = sum_by-cons (share_of (λ s. s.unpublished)) x xs in
+    let high : sum_by (share_of (λ s. s.stands)) (x ∷ xs) ≡ share_of (λ s. s.stands) x + sum_by (share_of (λ s. s.stands)) xs = sum_by-cons (share_of (λ s. s.stands)) x xs in
+    omega arith
+
+pub filled_above_limit : (c : Machine) → IsSound c → (i : ℕ) → (seat_at c i).live ≡ true → (seat_at c i).ended ≡ true → c.limit < filled c
+filled_above_limit c sound i live ended =
+    let was = sound.seats i live in
+    let less = was.less_at_end ended in
+    let met = was.end_met ended in
+    let within = live_within c.seats i live in
+    let counts = sum_by-set (share_of (λ s. s.unpublished)) c.seats i spent spent within in
+    let stands = sum_by-set (share_of (λ s. s.stands)) c.seats i spent spent within in
+    let mine = share_live (λ s. s.unpublished) (seat_at c i) live in
+    let its = share_live (λ s. s.stands) (seat_at c i) live in
+    let others : sum_by (share_of (λ s. s.unpublished)) (set c.seats i spent) ≤ sum_by (share_of (λ s. s.stands)) (set c.seats i spent) =
+    sums_below (set c.seats i spent) (λ j. set_cases (λ j s. share_of (λ s. s.unpublished) s ≤ share_of (λ s. s.stands) s) c.seats i spent spent within (omega arith) (λ j _. counts_below c sound j) j) in
+    let shared = sum_by-le-sum_by (share_of (λ s. s.stands)) (share_of shares) c.seats share_stands in
+    let all = sound.all_seats in
+    let counted = sound.all_counted in
+    omega arith
+
+-- A seat's list -----------------------------------------------------------------------------------
+
+listed_there : (l : List Entry) (e : ℕ) → 0 < count_by (λ p. eqb p.0 e) l → Contains l (entry e)
+listed_there [] e some = absurd (omega arith)
+listed_there (x ∷ xs) e some = ⊎_elim
+    (λ (here : eqb x.0 e ≡ true). (0, omega arith, ap entry (eqb-true x.0 e here)))
+    (λ (other : eqb x.0 e ≡ false).
+    let one : Entry → ℕ = λ p. cond (eqb p.0 e) 1 0 in
+    let parts : sum_by one (x ∷ xs) ≡ one x + sum_by one xs = sum_by-cons one x xs in
+    let none : one x ≡ 0 = ap (λ (b : Bool). cond b 1 0) other in
+    let some' : 0 < sum_by one (x ∷ xs) = some in
+    let rest : 0 < count_by (λ p. eqb p.0 e) xs = more (sum_by one (x ∷ xs)) (one x) (sum_by one xs) parts none some' in
+    contains_cons x xs (entry e) (listed_there xs e rest))
+    (cases_Bool (eqb x.0 e))
+  where
+    more : (a b c : ℕ) → a ≡ b + c → b ≡ 0 → 0 < a → 0 < c
+    more a b c parts none some = omega arith
+
+-- no live seat lists an entry twice
+pub listed_at_most_once : (c : Machine) → IsSound c → (i : ℕ) → (seat_at c i).live ≡ true → (e : ℕ) → times_listed e (seat_at c i) ≤ 1
+listed_at_most_once c sound i live e =
+    let part = get_or-le-sum_by (share_of (times_listed e)) c.seats i spent (live_within c.seats i live) in
+    let mine = share_live (times_listed e) (seat_at c i) live in
+    ⊎_elim
+    (λ (none : times_listed e (seat_at c i) ≡ 0). omega arith)
+    (λ (some : times_listed e (seat_at c i) ≡ 0 → ⊥).
+    let k = known_at (seat_at c i).knows (entry e) ((sound.seats i live).own_known (entry e) (listed_there (seat_at c i).published e (omega (arith, some)))) in
+    let known = (sound.seats i live).known k.0 k.1 in
+    let names : Names c known.published.0 e = known.published.1 ∙ ap (λ (n : ℕ). n + 1) k.2 in
+    let one = sound.listed_once known.published.0 e names in
+    omega arith)
+    (cases_eq (times_listed e (seat_at c i)) 0)
 
 -- The test of two keys decides whether they are equal -------------------------------------------
 

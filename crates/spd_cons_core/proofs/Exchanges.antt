@@ -46,7 +46,7 @@ record IsPublishing (c : Machine) (i : ℕ) (call : Call) (spare : Entry) : Type
   empty : bucket c call.at ≡ 0
 
 -- a bucket that names an entry is one of the buckets
-named_within : (c : Machine) (b e : ℕ) → Names c b e → b < bucket_count c
+pub named_within : (c : Machine) (b e : ℕ) → Names c b e → b < bucket_count c
 named_within c b e names =
     ⊎_elim (λ (within : b < bucket_count c). within)
     (λ (past : bucket_count c ≤ b). let zero : bucket c b ≡ 0 = get_or_past c.buckets b 0 past in absurd (omega arith))

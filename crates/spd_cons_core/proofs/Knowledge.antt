@@ -2,7 +2,7 @@
 use Rattle.std.proofs.Common.{◌≡◌, ◌⊎◌, ℕ, zero, suc, Bool, true, false, eqb, List, [], ◌∷◌, ◌++◌, refl, sym, ap, ◌∙◌, subst, inl, inr, ⊎_elim, arith}
 use Rattle.std.specs.List.{Contains, list_any, fold}
 use Rattle.std.proofs.lemmas.Bool.{true≢false, eqb-true, eq-eqb, or_cases, or_left, or_right, cond_both, and_parts, and_from}
-use Rattle.std.proofs.lemmas.List.Elements.{Contains-push_cases}
+use Rattle.std.proofs.lemmas.List.Elements.{Contains-push_cases, Contains-append_left}
 use Rattle.spd_cons_core.specs.declared.key.Entry.{Entry}
 use Rattle.spd_cons_core.specs.declared.key.Key.{Key}
 use Rattle.spd_cons_core.specs.declared.key.Key.TheVariants.{Test, Num, Pair, Act}
@@ -69,7 +69,14 @@ pub learned_cases : (xs : List Known) (k x : Known) → Contains (learned xs k) 
 learned_cases xs k x = cond_both (is_known xs k.entry) xs (xs ++ k ∷ []) (λ l. Contains l x → Contains xs x ⊎ (k ≡ x))
     (λ _ at. inl at) (λ _ at. Contains-push_cases xs k x at)
 
+pub learned_contains : (xs : List Known) (k x : Known) → Contains xs x → Contains (learned xs k) x
+learned_contains xs k x at = cond_both (is_known xs k.entry) xs (xs ++ k ∷ []) (λ l. Contains l x) (λ _. at) (λ _. Contains-append_left xs (k ∷ []) x at)
+
 -- joining
+
+pub joined_contains : (ys xs : List Known) (x : Known) → Contains xs x → Contains (fold learned xs ys) x
+joined_contains [] xs x at = at
+joined_contains (y ∷ ys) xs x at = joined_contains ys (learned xs y) x (learned_contains xs y x at)
 
 pub joined_keeps : (ys xs : List Known) (e : Entry) → is_known xs e ≡ true → is_known (fold learned xs ys) e ≡ true
 joined_keeps [] xs e is = is

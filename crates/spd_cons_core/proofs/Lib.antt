@@ -16,3 +16,5 @@ pub mod Taken
 pub mod Runs
 pub mod Consequences
 pub mod Transitions
+pub mod Unknown
+pub mod CallerLemmas

@@ -60,11 +60,11 @@ found_entry c seat call empty was none full = record {
 }
 
 -- the search in which a seat that can load a bucket stands
-record IsReady (c : Machine) (seat : Seat) (call : Call) : Type 0 where
-  search : IsSearch c seat call
-  none_found : call.found ≡ None
+pub record IsReady (c : Machine) (seat : Seat) (call : Call) : Type 0 where
+  pub search : IsSearch c seat call
+  pub none_found : call.found ≡ None
 
-ready : (c : Machine) (seat : Seat) (key : Key) → IsSized c → IsKey key → ((call : Call) → seat.call ≡ Some call → IsSearch c seat call) → can_load_bucket key seat ≡ true → IsReady c seat (call_for (bucket_count c) key seat)
+pub ready : (c : Machine) (seat : Seat) (key : Key) → IsSized c → IsKey key → ((call : Call) → seat.call ≡ Some call → IsSearch c seat call) → can_load_bucket key seat ≡ true → IsReady c seat (call_for (bucket_count c) key seat)
 ready c seat key sized fits was can = by_call seat.call refl (and_parts seat.live _ can).1
   where
     none_is : (o : Option Entry) → is_none o ≡ true → o ≡ None

@@ -1,5 +1,5 @@
 -- What an event makes of the machine where its seat can take it.
-use Rattle.std.proofs.Common.{◌≡◌, ℕ, ◌+◌, ◌<◌, Bool, true, false, cond, not, is_none, unwrap_or, ◌&&◌, eqb, List, length, get_or, set, Option, Some, None, refl, sym, ap, ◌∙◌}
+use Rattle.std.proofs.Common.{◌≡◌, ℕ, ◌+◌, ◌<◌, Bool, true, false, cond, not, is_none, unwrap_or, ◌&&◌, eqb, List, [], ◌∷◌, ◌++◌, length, get_or, set, Option, Some, None, refl, sym, ap, ◌∙◌}
 use Rattle.std.specs.Option.{option_map_or}
 use Rattle.std.proofs.lemmas.Bool.{true≢false, and_parts, and_from, not_from_false, ne_eqb, cond-true, eqb-true}
 use Rattle.std.proofs.lemmas.List.{set_comm, get_or-set_other}
@@ -8,7 +8,7 @@ use Rattle.spd_cons_core.specs.declared.key.Key.{Key}
 use Rattle.spd_cons_core.specs.declared.mind.Call.{Call}
 use Rattle.spd_cons_core.specs.Views.{Seat, Machine}
 use Rattle.spd_cons_core.specs.Seats.{seat_at, with_seat, bucket, bucket_count, entry, entry_words, spent}
-use Rattle.spd_cons_core.specs.Events.{can_exchange, after_exchange, exchange_in, exchange_bucket, can_compare, after_content, compare_in, load_content, can_join, after_join, join, can_load_bucket, call_for, new_call}
+use Rattle.spd_cons_core.specs.Events.{load_bucket, after_bucket, can_claim, after_claim, claim, can_store, store_in, store_content, can_split, after_split, split_off, split, can_exchange, after_exchange, exchange_in, exchange_bucket, can_compare, after_content, compare_in, load_content, can_join, after_join, join, can_load_bucket, call_for, new_call}
 use Rattle.spd_cons_core.specs.Spelling.{words_of}
 use Rattle.spd_cons_core.specs.Invariants.{IsSized, IsSound}
 use Rattle.spd_cons_core.proofs.Starts.{start_below}
@@ -67,3 +67,27 @@ call_for_within c sized sound i key seat b same test passed = by_call seat.call 
     by_call : (o : Option Call) → seat.call ≡ o → (unwrap_or o (new_call (bucket_count c) key)).at < bucket_count c
     by_call None is = start_below (words_of key) (bucket_count c) (some_buckets c sized)
     by_call (Some call) is = call_within c sound i seat call same (and_parts seat.live _ (sym test ∙ passed)).0 is
+
+-- what each event makes of the machine where its seat can take it
+
+pub load_taken : (c : Machine) (i : ℕ) (key : Key) (seat : Seat) → seat_at c i ≡ seat → can_load_bucket key seat ≡ true
+    → load_bucket c i key ≡ with_seat c i (after_bucket (call_for (bucket_count c) key seat) (bucket c (call_for (bucket_count c) key seat).at) seat)
+load_taken c i key seat same can =
+    cond-true (can_load_bucket key (seat_at c i)) _ _ (ap (can_load_bucket key) same ∙ can)
+    ∙ ap (λ (s : Seat). with_seat c i (after_bucket (call_for (bucket_count c) key s) (bucket c (call_for (bucket_count c) key s).at) s)) same
+
+pub claim_taken : (c : Machine) (i : ℕ) (seat : Seat) → seat_at c i ≡ seat → can_claim seat ≡ true
+    → claim c i ≡ record c { claims = c.claims + 1; seats = set c.seats i (after_claim (c.limit + c.most) c.claims seat) }
+claim_taken c i seat same can =
+    cond-true (can_claim (seat_at c i)) _ _ (ap can_claim same ∙ can)
+    ∙ ap (λ (s : Seat). record c { claims = c.claims + 1; seats = set c.seats i (after_claim (c.limit + c.most) c.claims s) }) same
+
+pub store_taken : (c : Machine) (i word : ℕ) (seat : Seat) (call : Call) (spare : Entry) → seat_at c i ≡ seat → seat.call ≡ Some call → seat.spare ≡ Some spare → can_store word call seat ≡ true
+    → store_content c i word ≡ record c { entries = set c.entries spare.0 (set (entry_words c spare.0) word (get_or (words_of call.key) word 0)); seats = set c.seats i (record seat { call = Some (record call { stored = call.stored + 1 }) }) }
+store_taken c i word seat call spare same in_call has can =
+    (λ j. store_in c i word ((ap (λ (s : Seat). s.call) same ∙ in_call) j) ((ap (λ (s : Seat). s.spare) same ∙ has) j))
+    ∙ (cond-true (can_store word call (seat_at c i)) _ _ (ap (can_store word call) same ∙ can)
+    ∙ ap (λ (s : Seat). record c { entries = set c.entries spare.0 (set (entry_words c spare.0) word (get_or (words_of call.key) word 0)); seats = set c.seats i (record s { call = Some (record call { stored = call.stored + 1 }) }) }) same)
+
+pub split_taken : (c : Machine) (i : ℕ) (seat : Seat) → seat_at c i ≡ seat → can_split seat ≡ true → split c i ≡ record c { seats = set c.seats i (after_split seat) ++ split_off seat ∷ [] }
+split_taken c i seat same can = cond-true (can_split (seat_at c i)) _ _ (ap can_split same ∙ can) ∙ ap (λ (z : Seat). record c { seats = set c.seats i (after_split z) ++ split_off z ∷ [] }) same

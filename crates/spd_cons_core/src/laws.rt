@@ -1,6 +1,6 @@
 //! The laws of the machine. Each function does nothing: its contract is the law, for the proofs of
 //! the table that runs in threads, each of whose atomic steps is one event.
-ghost use Rattle.std.specs.Prelude.{◌≡◌, ◌≢◌, ℕ, ◌+◌, ◌*◌, ◌<◌, ◌≤◌, ◌↔◌, ◌⊎◌, ℤ, List, IsTrue, IsFalse, Some, length};
+ghost use Rattle.std.specs.Prelude.{◌≡◌, ◌≢◌, ℕ, ◌+◌, ◌*◌, ◌<◌, ◌≤◌, ◌↔◌, ◌⊎◌, ℤ, List, [], ◌∷◌, ◌++◌, IsTrue, IsFalse, Some, length, slice_index, slice_set};
 ghost use Rattle.std.specs.List.{AllByRecursion, Contains};
 ghost use Rattle.std.specs.Int.{IsNextPowerOfTwo};
 ghost use Rattle.spd_cons_core.specs.declared.key.Entry.{Entry};
@@ -10,9 +10,9 @@ ghost use Rattle.spd_cons_core.specs.declared.mind.Call.{Call};
 ghost use Rattle.spd_cons_core.specs.declared.event.Event.{Event};
 ghost use Rattle.spd_cons_core.specs.Views.{Machine, Seat};
 ghost use Rattle.spd_cons_core.specs.Spelling.{words_of, start_of, IsKey};
-ghost use Rattle.spd_cons_core.specs.Seats.{seat_at, bucket, bucket_count, Names, entry_words, is_known, same_key};
-ghost use Rattle.spd_cons_core.specs.Events.{load_bucket, claim, store_content, exchange_bucket, load_content, split, after_join, join, next_bucket, step, run, new_machine};
-ghost use Rattle.spd_cons_core.specs.Invariants.{IsSized, IsSound, IsEvent, Keeps, Publishes, seat_of, total, filled, shares};
+ghost use Rattle.spd_cons_core.specs.Seats.{seat_at, with_seat, bucket, bucket_count, Names, entry_words, is_known, same_key};
+ghost use Rattle.spd_cons_core.specs.Events.{call_for, can_load_bucket, after_bucket, can_claim, after_claim, can_store, can_split, after_split, split_off, load_bucket, claim, store_content, exchange_bucket, load_content, split, after_join, join, next_bucket, step, run, new_machine};
+ghost use Rattle.spd_cons_core.specs.Invariants.{IsSized, IsSound, IsEvent, Keeps, Publishes, seat_of, total, times_listed, filled, shares};
 
 // What each kind of event keeps ------------------------------------------------------------------
 
@@ -134,6 +134,37 @@ pub fn lists_count_published()
 /// Each seat claims at most once past the end, so the claim number is bounded.
 pub fn claims_are_bounded()
     ensures { (c : Machine) → IsSound c → c.claims ≤ c.limit + 2 * c.most }
+{}
+
+/// Where a bucket that is loaded for a key is empty, the key is published nowhere, and no seat knows
+/// it.
+pub fn empty_buckets_tell()
+    ensures published { (c : Machine) (seat : ℕ) (key : Key) → IsSized c → IsSound c → IsKey key → IsTrue (can_load_bucket key (seat_at c seat)) → bucket c (call_for (bucket_count c) key (seat_at c seat)).at ≡ 0
+        → (b e : ℕ) → Names c b e → entry_words c e ≢ words_of key }
+    ensures known { (c : Machine) (seat : ℕ) (key : Key) → IsSized c → IsSound c → IsKey key → IsTrue (can_load_bucket key (seat_at c seat)) → bucket c (call_for (bucket_count c) key (seat_at c seat)).at ≡ 0
+        → (other : ℕ) (k : Known) → IsTrue (seat_at c other).live → Contains (seat_at c other).knows k → k.key ≢ key }
+{}
+
+/// What an event makes of the machine where its seat can take it.
+pub fn events_are_taken()
+    ensures load_bucket { (c : Machine) (i : ℕ) (key : Key) (seat : Seat) → seat_at c i ≡ seat → IsTrue (can_load_bucket key seat)
+        → load_bucket c i key ≡ with_seat c i (after_bucket (call_for (bucket_count c) key seat) (bucket c (call_for (bucket_count c) key seat).at) seat) }
+    ensures claim { (c : Machine) (i : ℕ) (seat : Seat) → seat_at c i ≡ seat → IsTrue (can_claim seat)
+        → claim c i ≡ record c { claims = c.claims + 1; seats = slice_set c.seats i (after_claim (c.limit + c.most) c.claims seat) } }
+    ensures store_content { (c : Machine) (i word : ℕ) (seat : Seat) (call : Call) (spare : Entry) → seat_at c i ≡ seat → seat.call ≡ Some call → seat.spare ≡ Some spare → IsTrue (can_store word call seat)
+        → store_content c i word ≡ record c { entries = slice_set c.entries spare.0 (slice_set (entry_words c spare.0) word (slice_index (words_of call.key) word)); seats = slice_set c.seats i (record seat { call = Some (record call { stored = call.stored + 1 }) }) } }
+    ensures split { (c : Machine) (i : ℕ) (seat : Seat) → seat_at c i ≡ seat → IsTrue (can_split seat) → split c i ≡ record c { seats = slice_set c.seats i (after_split seat) ++ split_off seat ∷ [] } }
+{}
+
+/// Where a live seat has met the end of the claims, more than `limit` entries are published, whatever
+/// seats there are besides.
+pub fn ended_tables_are_full()
+    ensures { (c : Machine) (i : ℕ) → IsSound c → IsTrue (seat_at c i).live → IsTrue (seat_at c i).ended → c.limit < filled c }
+{}
+
+/// No live seat lists an entry twice.
+pub fn lists_are_distinct()
+    ensures { (c : Machine) (i e : ℕ) → IsSound c → IsTrue (seat_at c i).live → times_listed e (seat_at c i) ≤ 1 }
 {}
 
 // How keys are spelled ---------------------------------------------------------------------------

@@ -4,6 +4,7 @@
 //! running table may take, and proves what holds between any two of them, whatever their order.
 #![tactic(auto)]
 
+pub mod call_count;
 mod event;
 mod key;
 pub mod laws;
@@ -15,10 +16,11 @@ mod table;
 #[cfg(test)]
 mod tests;
 
+pub use call_count::Steps;
 pub use event::Event;
 pub use key::{Entry, Key};
 pub use mind::{Call, Known, Last, Mind};
-pub use spelling::{start_bucket, words_of};
+pub use spelling::{key_of, start_bucket, words_of};
 pub use steps::{run, step};
 pub use table::{Core, Words};
 

@@ -1,5 +1,7 @@
 //! How a key is spelled in five words, and where its search starts.
-ghost use Rattle.std.specs.Prelude.{◌≡◌, ◌*◌, ◌/◌, ◌%◌, ◌^◌, ◌<◌, ◌≤◌};
+ghost use Rattle.std.specs.Prelude.{◌≡◌, ◌*◌, ◌/◌, ◌%◌, ◌^◌, ◌<◌, ◌≤◌, ℤ, FitsSigned};
+ghost use Rattle.std.specs.Int.{w128};
+ghost use Rattle.spd_cons_core.specs.declared.key.Key.{Key};
 ghost use Rattle.spd_cons_core.specs.Spelling.{words_of, low, high, mixed, hash_of, start_of, IsKey};
 
 use crate::key::{Entry, Key};
@@ -53,6 +55,37 @@ pub fn words_of(key: &Key) -> Words
             Words([3, first_low, first_high, second_low, second_high])
         }
         Key::Act(action) => Words([4, u64::from(action), 0, 0, 0]),
+    }
+}
+
+/// The number whose two's complement of 128 bits has these halves.
+fn whole(low_half: u64, high_half: u64) -> i128
+    ensures { (n : ℤ) → FitsSigned w128 n → low_half ≡ low n → high_half ≡ high n → result ≡ n }
+{
+    (u128::from(high_half) * (1 << 64) + u128::from(low_half)).cast_signed()
+}
+
+/// The entry that a word numbers.
+fn word_entry(word: u64) -> Entry
+    ensures { word < 2 ^ 32 → result.0 ≡ word }
+{
+    Entry((word % (1 << 32)) as u32)
+}
+
+/// The key that five words spell, where they spell one.
+pub fn key_of(words: &Words) -> Key
+    ensures { (key : Key) → IsKey key → words.now ≡ words_of key → result ≡ key }
+{
+    let [kind, first, second, third, fourth] = words.0;
+    match kind % 16 {
+        1 => Key::Test {
+            level: (kind / 16 % (1 << 16)) as u16,
+            yes: word_entry(first),
+            no: word_entry(second),
+        },
+        2 => Key::Num(whole(first, second)),
+        3 => Key::Pair(whole(first, second), whole(third, fourth)),
+        _ => Key::Act(word_entry(first).0),
     }
 }
 

@@ -6,35 +6,15 @@ use Rattle.std.proofs.lemmas.List.{take_all}
 use Rattle.std.proofs.lemmas.List.Elements.{All-contains}
 use Rattle.spd_cons_core.specs.declared.key.Entry.{Entry}
 use Rattle.spd_nodes.specs.declared.leaf.Leaf.{Leaf}
-use Rattle.spd_nodes.specs.Levels.{levels_of, slots, slot_of, level_at, after, is_first, IsTestOf}
+use Rattle.spd_nodes.specs.Levels.{levels_of, slots, slot_of, level_at, after, is_first, IsTestOf, IsSlot}
 use Rattle.spd_nodes.specs.Trees.{Tree, Ends, Tests, IsFrom, IsReduced, IsNode, Itself, InYes, InNo}
 use Rattle.spd_nodes.specs.Shown.{Shown, IsSound, meaning}
 use Rattle.spd_nodes.specs.Refs.{HasTree, IsReached}
-use Rattle.spd_nodes.proofs.LayoutLaws.{level-plain}
-use Rattle.spd_apply.proofs.HalfLaws.{level_of-reduced}
+use Rattle.spd_nodes.proofs.CallerLemmas.{level_of-reduced, after-in, first-is, slot-of, level-plain}
 use Rattle.spd_apply.specs.Leaves.{AreLeavesOf}
 use Rattle.spd_apply.specs.Outcome.{FitEverywhere, FitsEverywhere}
 use Rattle.spd_restrict.specs.Primed.{is_plain_level, TestsNoPrimed}
-use Rattle.spd_restrict.specs.Restricted.{IsSlot}
-use Rattle.spd_restrict.proofs.SlotLaws.{after-in, first-is}
-use Rattle.spd_restrict.proofs.FixedLaws.{slot-of}
 use Rattle.spd_diagram_rows.specs.PlainRoots.{IsPlainRoot}
-
-slot-test : (sizes : List ℕ) (l var v : ℕ) (primed : Bool) → IsTestOf sizes l var primed v
-    → IsSlot (slots sizes) (slot_of var primed) (level_at sizes var primed 0) (level_at sizes var primed 0 + (get_or sizes var 0 - 1))
-slot-test sizes l var v primed t = slot-of sizes var _ _ primed t.var_in refl refl
-
--- the test of a first value
-pub first-test : (sizes : List ℕ) (l var v : ℕ) (primed : Bool) → IsTestOf sizes l var primed v → v ≡ 0 → is_first (slots sizes) l ≡ true
-first-test sizes l var v primed t z =
-    let e : level_at sizes var primed 0 ≡ l = ap (level_at sizes var primed) (sym z) ∙ t.level_is in
-    let i : is_first (slots sizes) (level_at sizes var primed 0) ≡ true = first-is (slots sizes) (slot_of var primed) _ _ (slot-test sizes l var v primed t) (omega (arith, t.value_in)) in
-    rw e at i
-
--- the end of the tests of a level's variable and kind
-pub end-test : (sizes : List ℕ) (l var v end : ℕ) (primed : Bool) → IsTestOf sizes l var primed v → end ≡ level_at sizes var primed 0 + (get_or sizes var 0 - 1) → end ≡ after (slots sizes) l
-end-test sizes l var v end primed t e =
-    e ∙ sym (after-in (slots sizes) (slot_of var primed) _ _ l (slot-test sizes l var v primed t) (omega (arith, t.level_is)) (omega (arith, t.level_is, t.value_in)))
 
 plain-at : (ds : List ℕ) (l var v : ℕ) → var < length ds → v + 1 < get_or ds var 0 → 2 * levels_of (take var ds) + (get_or ds var 0 - 1) + v ≡ l → is_plain_level ds l ≡ true
 plain-at [] l var v h j e = absurd (omega arith)
@@ -51,23 +31,6 @@ plain-at (d ∷ ds) l (suc var) v h j e =
 pub plain-test : (sizes : List ℕ) (l var v : ℕ) → IsTestOf sizes l var false v → is_plain_level sizes l ≡ true
 plain-test sizes l var v t = plain-at sizes l var v t.var_in t.value_in (sym (level-plain sizes var v t.var_in) ∙ t.level_is)
 
--- a test that a forest knows has a level
-pub level-known : (s : Shown) → IsSound s → (r : Entry) (l : ℕ) (y n : Tree) → s.knows r ≡ true → s.tree r ≡ Tests l y n → l < levels_of (slots s.sizes)
-level-known s o r l y n k e = level_of-reduced (slots s.sizes) l y n (subst (λ t. IsReduced (slots s.sizes) 0 t) e (o.reduced r k))
-
--- an operation or a map is defined everywhere that is defined on the leaves
-pub fit-leaves : (fits : Leaf → Leaf → Bool) (s : Shown) (f g : Entry) (left right : List Leaf) → AreLeavesOf s.sizes (meaning s f) left → AreLeavesOf s.sizes (meaning s g) right
-    → All (λ a. All (λ b. fits a b ≡ true) right) left → FitEverywhere fits s f g
-fit-leaves fits s f g left right hf hg all = record {
-  at = λ x y i j.
-      All-contains (λ b. fits (meaning s f x y) b ≡ true) right (meaning s g x y)
-      (All-contains (λ a. All (λ b. fits a b ≡ true) right) left (meaning s f x y) all (hf.all x y i j))
-      (hg.all x y i j);
-}
-
-pub fits-leaves : (fits : Leaf → Bool) (s : Shown) (f : Entry) (leaves : List Leaf) → AreLeavesOf s.sizes (meaning s f) leaves → All (λ a. fits a ≡ true) leaves → FitsEverywhere fits s f
-fits-leaves fits s f leaves h all = record { at = λ x y i j. All-contains (λ a. fits a ≡ true) leaves (meaning s f x y) all (h.all x y i j) }
-
 -- a diagram whose nodes test plain values alone
 plain-nodes : (sizes : List ℕ) (t : Tree) → ((l : ℕ) (y n : Tree) → IsNode (Tests l y n) t → is_plain_level sizes l ≡ true) → TestsNoPrimed sizes t
 plain-nodes sizes (Ends a) h = tt
@@ -77,14 +40,6 @@ pub plain-reached : (s : Shown) (r : Entry) (refs : List Entry) → IsReached s 
 plain-reached s r refs h all =
     plain-nodes s.sizes (s.tree r)
     (λ l y n i. let k : HasTree s refs (Tests l y n) = h.all (Tests l y n) i in (All-contains (IsPlainRoot s) refs k.ref all k.is_in).plain l y n k.tree)
-
--- the root of a diagram, by what its level tests
-pub from-test : (s : Shown) (r : Entry) (l var v end : ℕ) (primed : Bool) (y n : Tree) → s.tree r ≡ Tests l y n → IsTestOf s.sizes l var primed v → end ≤ l → IsTrue (nat_eq v 0) → IsFrom (slots s.sizes) 0 end (s.tree r)
-from-test s r l var v end primed y n e t h z =
-    let z' : v ≡ 0 = (Decides-eqb v 0).0 z in
-    let first : is_first (slots s.sizes) l ≡ true = first-test s.sizes l var v primed t z' in
-    let w : is_first (slots s.sizes) (l - 0) ≡ true = let q : l - 0 ≡ l = omega arith in rw q first in
-    subst (λ u. IsFrom (slots s.sizes) 0 end u) (sym e) (h, w)
 
 pub plain-root : (s : Shown) (q : Entry) (l var v : ℕ) (primed : Bool) (y n : Tree) → s.tree q ≡ Tests l y n → IsTestOf s.sizes l var primed v → IsTrue (not primed) → IsPlainRoot s q
 plain-root s q l var v true y n e t h = absurd (true≢false (sym h))

@@ -9,7 +9,7 @@ use Rattle.spd_apply.specs.Leaves.{leaf_before}
 use Rattle.spd_apply.specs.Operations.{num_of, first_greater, kept_of}
 use Rattle.spd_apply.specs.Outcome.{at_each}
 use Rattle.spd_apply.specs.Rounding.{floor_by, ceil_by}
-use Rattle.spd_restrict.specs.Chosen.{value_of}
+use Rattle.spd_restrict.specs.Chosen.{variable_value}
 
 -- variables of 2, 3 and 1 values: x' has level 0, x level 1, y' levels 2 and 3, y levels 4 and 5, z none
 abbrev sizes : List ℕ
@@ -25,10 +25,10 @@ points = refl
 
 -- the indicators of two variables' first values: three nodes each, and six of their sum
 abbrev x-first : Function
-x-first s t = cond (value_of 0 false s t == 0) (Num (pos 1)) (Num (pos 0))
+x-first s t = cond (variable_value 0 false s t == 0) (Num (pos 1)) (Num (pos 0))
 
 abbrev y-first : Function
-y-first s t = cond (value_of 1 false s t == 0) (Num (pos 1)) (Num (pos 0))
+y-first s t = cond (variable_value 1 false s t == 0) (Num (pos 1)) (Num (pos 0))
 
 x-nodes : node_count (test_tree (2 ∷ 2 ∷ []) x-first) ≡ 3
 x-nodes = refl

@@ -1,7 +1,5 @@
 //! What a diagram's nodes say, by views of them.
 ghost use Rattle.std.specs.Prelude.{◌≡◌, ℕ, IfOk, IsTrue, true};
-ghost use Rattle.spd_nodes.specs.Levels.{slots};
-ghost use Rattle.spd_nodes.specs.Trees.{IsFrom, IsAt};
 ghost use Rattle.spd_nodes.specs.Shown.{Shown};
 ghost use Rattle.spd_restrict.specs.Primed.{TestsNoPrimed};
 ghost use Rattle.spd_diagram_rows.specs.PlainRoots.{IsPlainRoot};
@@ -65,32 +63,5 @@ fn is_plain_root<F: Forest>(forest: &mut F, q: Ref) -> bool
             let (_, primed, _) = forest.layout().what(level);
             !primed
         }
-    }
-}
-
-/// Whether the root of a diagram is a leaf or a test of a first value from level `end` on.
-pub fn is_from<F: Forest>(forest: &mut F, r: Ref, end: u16) -> bool
-    requires { (F.shows forest.old).knows r ≡ true }
-    ensures same { F.shows forest.new ≡ F.shows forest.old }
-    ensures from { IsTrue result → IsFrom (slots (F.shows forest.old).sizes) 0 end ((F.shows forest.old).tree r) }
-{
-    match forest.view(r) {
-        View::Leaf(_) => true,
-        View::Test { level, .. } => {
-            let (_, _, value) = forest.layout().what(level);
-            end <= level.0 && value == 0
-        }
-    }
-}
-
-/// Whether the root of a diagram tests this level.
-pub fn is_at<F: Forest>(forest: &mut F, r: Ref, level: u16) -> bool
-    requires { (F.shows forest.old).knows r ≡ true }
-    ensures same { F.shows forest.new ≡ F.shows forest.old }
-    ensures at { IsTrue result → IsAt level ((F.shows forest.old).tree r) }
-{
-    match forest.view(r) {
-        View::Leaf(_) => false,
-        View::Test { level: root, .. } => root.0 == level,
     }
 }

@@ -1,4 +1,6 @@
-pub mod ToldLemmas
-pub mod NamesLemmas
-pub mod MemoryPlaceLemmas
+pub mod CallerLemmas
+mod NamesLemmas
+mod DirectionLemmas
+mod ShelfLemmas
+mod MemoryPlaceLemmas
 mod Rows

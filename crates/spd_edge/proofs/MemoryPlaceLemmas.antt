@@ -1,165 +1,102 @@
--- What a place in memory holds, and the counts of its names.
-use Rattle.std.proofs.Common.{◌≡◌, ◌≢◌, ℕ, ◌+◌, ◌-◌, ◌^◌, ◌<◌, ◌≤◌, min, List, [], ◌∷◌, length, Bool, true, false, true≢false, cond, None, Some, IsSome, All, refl, sym, ap, ◌∙◌, subst, arith, zero, suc}
-use Rattle.std.specs.Prelude.{find, position, option_map, slice_set, slice_index_or, slice_get}
-use Rattle.std.specs.Option.{option_map_or}
-use Rattle.std.specs.List.{position_or_len}
-use Rattle.std.specs.Str.{bytes_eq}
-use Rattle.std.proofs.lemmas.Grind.{common_steps}
-use Rattle.std.proofs.lemmas.Slice.Eq.{bytes_eq-Decides}
-use Rattle.std.proofs.lemmas.Option.{slice_get-get_or, slice_get_past, slice_get_within, get_or_from_slice_get}
-use Rattle.std.proofs.lemmas.List.Folds.{find-set, find_past, find_at}
-use Rattle.spd_edge.specs.declared.mem_place.Put.{Put}
-use Rattle.spd_edge.specs.MemoryPlace.{Inputs, Counts, IsPut, put_under, input_under, faults_of}
-use Rattle.spd_edge.specs.Names.{NoneFalls}
-use Rattle.spd_edge.proofs.NamesLemmas.{bytes_eq-other}
+-- What opens and closes of a place in memory change, as a direction shows it.
+use Rattle.std.proofs.Common.{◌≡◌, ℕ, ◌≤◌, List, Bool, true, false, ◌||◌, ◌&&◌, cond, Option, Some, IfSome, refl, sym, ap, subst, arith}
+use Rattle.std.specs.Prelude.{is_none, option_map}
+use Rattle.spd_edge.specs.declared.outside.Stage.{Stage}
+use Rattle.spd_edge.specs.Counts.{AllInRange, NoneFalls, counted}
+use Rattle.spd_edge.specs.Direction.{Closes, Direction, FailsToOpen, Opens}
+use Rattle.spd_edge.specs.Memory.{Input, Output}
+use Rattle.spd_edge.specs.Names.{updated}
+use Rattle.spd_edge.specs.MemoryPlace.{AllPut, Shelf, closed_on, counting, opened_on, refused_on, shares_count}
+use Rattle.spd_edge.proofs.CallerLemmas.{bytes_eq-same}
+use Rattle.spd_edge.proofs.NamesLemmas.{bytes_eq-cases, updated-same, updated-other}
 
--- what is found passes the test
-pub find_passes : {X : Type 0} (p : X → Bool) (xs : List X) (x : X) → find p xs ≡ Some x → p x ≡ true
-find_passes p [] x found = cc found
-find_passes p (y ∷ ys) x found =
-    elim (p y) as (λ b. p y ≡ b → cond b (Some y) (find p ys) ≡ Some x → p x ≡ true) [
-      | true ↦ λ passes is. cc (passes, is)
-      | false ↦ λ fails is. find_passes p ys x is
-    ] refl found
+-- the bytes that each direction holds, by what was put there and what was closed
+abbrev pub bytes_put : (List ℕ → Option Input) → (List ℕ → Option Input) → List ℕ → Option (List ℕ)
+bytes_put put closed name = option_map (λ input. input.left) (put name)
 
--- a position is the first place that passes
-pub position_is : {X : Type 0} (p : X → Bool) (xs : List X) (i : ℕ) → position p xs ≡ Some i → (i ≡ position_or_len p xs) × (i < length xs)
-position_is p xs i is = (grind (arith, common_steps), grind (arith, common_steps))
+abbrev pub bytes_closed : (List ℕ → Option Output) → (List ℕ → Option Output) → List ℕ → Option (List ℕ)
+bytes_closed put closed name = option_map (λ output. output.taken) (closed name)
 
--- no position, nothing found
-pub find_none : {X : Type 0} (p : X → Bool) (xs : List X) → position p xs ≡ None → find p xs ≡ None
-find_none p xs none = find_at p xs ∙ slice_get_past xs _ (grind (arith, common_steps))
+module _ {X : Type 0} where
+  -- where a shelf keeps what was put there, each object still meets its condition
+  pub AllPut-kept : (P : List ℕ → X → Type 0) (before now : Shelf X) → now.put ≡ before.put → AllPut P before → AllPut P now
+  AllPut-kept P before now same all name = subst (λ (put : List ℕ → Option X). IfSome (put name) (P name)) (sym same) (all name)
 
--- what a look-up shows of an element stays where one is written that the test and the view can't tell from it
-pub find-set_alike : {X Y : Type 0} (p : X → Bool) (f : X → Y) (xs : List X) (i : ℕ) (d y : X) → p y ≡ p (slice_index_or xs i d) → f y ≡ f (slice_index_or xs i d) → option_map f (find p (slice_set xs i y)) ≡ option_map f (find p xs)
-find-set_alike p f [] i d y same_test same_view = refl
-find-set_alike p f (x ∷ xs) zero d y same_test same_view =
-    rw same_test (elim (p x) as (λ b. option_map f (cond b (Some y) (find p xs)) ≡ option_map f (cond b (Some x) (find p xs))) [
-      | true ↦ ap (λ shown. Some shown) same_view
-      | false ↦ refl
-    ])
-find-set_alike p f (x ∷ xs) (suc i) d y same_test same_view =
-    elim (p x) as (λ b. option_map f (cond b (Some x) (find p (slice_set xs i y))) ≡ option_map f (cond b (Some x) (find p xs))) [
-      | true ↦ refl
-      | false ↦ find-set_alike p f xs i d y same_test same_view
-    ]
+  -- so does one that is put there
+  pub AllPut-put : (P : List ℕ → X → Type 0) (before now : Shelf X) (name : List ℕ) (x : X) → now ≡ record before { put = updated before.put name (Some x) } → P name x
+      → AllPut P before → AllPut P now
+  AllPut-put P before now name x is here all other =
+      let P_now : (List ℕ → Option X) → Type 0 = λ put. IfSome (put other) (P other) in
+      subst P_now (sym (ap (λ (s : Shelf X). s.put) is))
+      (bytes_eq-cases (λ b. IfSome (cond b (Some x) (before.put other)) (P other)) other name
+      (λ same. subst (λ (q : List ℕ). P q x) (sym same) here)
+      (λ _. all other))
 
--- the input of a name that was put already has this name
-pub input_under-renamed : (puts : List Put) (name : List ℕ) (at : ℕ) (put : Put) → position (λ each. bytes_eq each.input.name name) puts ≡ Some at → put ≡ slice_index_or puts at put → Some (record put.input { name = name }) ≡ input_under puts name
-input_under-renamed puts name at put found there =
-    let first = position_is (λ each. bytes_eq each.input.name name) puts at found in
-    let was : put_under puts name ≡ Some put =
-    find_at (λ each. bytes_eq each.input.name name) puts
-    ∙ ap (slice_get puts) (sym first.0)
-    ∙ slice_get-get_or puts at put first.1
-    ∙ ap (λ each. Some each) (sym there) in
-    let named : put.input.name ≡ name = (bytes_eq-Decides put.input.name name).0 (find_passes (λ each. bytes_eq each.input.name name) puts put was) in
-    ap (λ n. Some (record put.input { name = n })) (sym named) ∙ ap (λ each. option_map (λ p. p.input) each) (sym was)
+  -- what was put under a name meets its condition
+  pub AllPut-found : (P : List ℕ → X → Type 0) (shelf : Shelf X) (name : List ℕ) (x : X) → AllPut P shelf → Some x ≡ shelf.put name → P name x
+  AllPut-found P shelf name x all is = subst (λ (o : Option X). IfSome o (P name)) (sym is) (all name)
 
-module _ (before : Inputs) (name : List ℕ) (more at : ℕ) (put counted : Put)
-    (found : position (λ each. bytes_eq each.input.name name) before.puts ≡ Some at)
-    (there : put ≡ slice_index_or before.puts at put)
-    (same_input : counted.input ≡ put.input)
-    (more_faults : counted.faults ≡ min (put.faults + more) (2 ^ 64 - 1)) where
-  under : List ℕ → Put → Bool
-  under other each = bytes_eq each.input.name other
+  -- a direction by a shelf, which holds bytes by what was put and closed there
+  module _ (bytes : (List ℕ → Option X) → (List ℕ → Option X) → List ℕ → Option (List ℕ)) where
+    abbrev pub direction : Shelf X → Direction
+    direction shelf = record { stage = shelf.stage; faults = shelf.faults; holds = bytes shelf.put shelf.closed }
 
-  abbrev now : Inputs
-  now = record before { puts = slice_set before.puts at counted }
+    pub Opens-opened : (before now : Shelf X) (name : List ℕ) → now ≡ opened_on before name → Opens (direction before) (direction now) name
+    Opens-opened before now name is =
+        subst (λ (s : Shelf X). Opens (direction before) (direction s) name) (sym is)
+        (record {
+          opened = updated-same before.stage name (Some Stage.Open);
+          other_stages = updated-other before.stage name (Some Stage.Open);
+          faults = refl;
+          holds = refl;
+        })
 
-  pub was : put_under before.puts name ≡ Some put
-  was =
-      let first = position_is (λ each. bytes_eq each.input.name name) before.puts at found in
-      find_at (λ each. bytes_eq each.input.name name) before.puts
-      ∙ ap (slice_get before.puts) (sym first.0)
-      ∙ slice_get-get_or before.puts at put first.1
-      ∙ ap (λ each. Some each) (sym there)
+    -- the count of the name itself
+    counting-same : (shelf : Shelf X) (name : List ℕ) (more : ℕ) → (counting shelf name more).faults name ≡ counted (shelf.faults name) more
+    counting-same shelf name more =
+        ap (λ b. cond (b || (is_none (shelf.put name) && is_none (shelf.put name))) (counted (shelf.faults name) more) (shelf.faults name)) (bytes_eq-same name)
 
-  named : put.input.name ≡ name
-  named = (bytes_eq-Decides put.input.name name).0 (find_passes (λ each. bytes_eq each.input.name name) before.puts put was)
+    pub FailsToOpen-refused : (before now : Shelf X) (name : List ℕ) → now ≡ refused_on before name → FailsToOpen (direction before) (direction now) name
+    FailsToOpen-refused before now name is =
+        subst (λ (s : Shelf X). FailsToOpen (direction before) (direction s) name) (sym is)
+        (record {
+          not_opened = updated-same before.stage name (Some Stage.Unopened);
+          other_stages = updated-other before.stage name (Some Stage.Unopened);
+          rose =
+              let here = counting-same (record before { stage = updated before.stage name (Some Stage.Unopened) }) name 1 in
+              omega (arith, here);
+          holds = refl;
+        })
 
-  passes : bytes_eq counted.input.name name ≡ true
-  passes = ap (λ input. bytes_eq input.name name) same_input ∙ find_passes (λ each. bytes_eq each.input.name name) before.puts put was
+    -- where no fault is more, no count changes
+    counting-none : (shelf : Shelf X) (name : List ℕ) (more : ℕ) → AllInRange shelf.faults → more ≡ 0 → (counting shelf name more).faults ≡ shelf.faults
+    counting-none shelf name more in_range none i other =
+        let same : counted (shelf.faults other) more ≡ shelf.faults other = let bound = in_range other in omega (arith, bound, none) in
+        let cases : (b : Bool) → cond b (counted (shelf.faults other) more) (shelf.faults other) ≡ shelf.faults other = λ b.
+        elim b as (λ v. cond v (counted (shelf.faults other) more) (shelf.faults other) ≡ shelf.faults other) [ true ↦ same | false ↦ refl ] in
+        cases (shares_count shelf name other) i
 
-  is : put_under now.puts name ≡ Some counted
-  is =
-      let first = position_is (λ each. bytes_eq each.input.name name) before.puts at found in
-      find-set (λ each. bytes_eq each.input.name name) before.puts at counted first.0 first.1 passes
+    pub Closes-closed : (before now : Shelf X) (name : List ℕ) (object : X) (faults : ℕ) → AllInRange before.faults → now ≡ closed_on before name object faults
+        → Closes (direction before) (direction now) name faults
+    Closes-closed before now name object faults in_range is =
+        let marked : Shelf X = record before { closed = updated before.closed name (Some object); stage = updated before.stage name (Some Stage.Closed) } in
+        subst (λ (s : Shelf X). Closes (direction before) (direction s) name faults) (sym is)
+        (record {
+          closed = updated-same before.stage name (Some Stage.Closed);
+          other_stages = updated-other before.stage name (Some Stage.Closed);
+          added = counting-same marked name faults;
+          no_fault = counting-none marked name faults in_range;
+        })
 
-  -- the faults of an input that was put are added to its own count
-  pub counts_own : Counts before now name more
-  counts_own = record {
-    added = ap (λ each. option_map_or (λ p. p.faults) each before.faults) is ∙ more_faults
-        ∙ ap (λ each. min (option_map_or (λ p. p.faults) each before.faults + more) (2 ^ 64 - 1)) (sym was);
-    others = λ other differ _.
-        let fails : bytes_eq put.input.name other ≡ false = bytes_eq-other put.input.name other (λ same. differ (sym same ∙ named)) in
-        ap
-        (λ each. option_map_or (λ p. p.faults) each before.faults)
-        (find_past (λ each. bytes_eq each.input.name other) before.puts at counted put
-        (ap (λ each. bytes_eq each.input.name other) (sym there) ∙ fails)
-        (ap (λ input. bytes_eq input.name other) same_input ∙ fails));
-    stray = λ none. cc (was, none);
-    inputs = λ i other. find-set_alike (λ each. bytes_eq each.input.name other) (λ each. each.input) before.puts at put counted
-        (ap (λ input. bytes_eq input.name other) same_input ∙ ap (λ each. bytes_eq each.input.name other) there)
-        (same_input ∙ ap (λ each. each.input) there) i;
-    asked = refl;
-    opened = refl;
-  }
-
-module _ (before : Inputs) (name : List ℕ) (more shared : ℕ)
-    (none : position (λ each. bytes_eq each.input.name name) before.puts ≡ None)
-    (more_faults : shared ≡ min (before.faults + more) (2 ^ 64 - 1)) where
-  -- the faults of a name that wasn't put are added to the count of all such names
-  pub counts_shared : Counts before (record before { faults = shared }) name more
-  counts_shared =
-      let nothing : put_under before.puts name ≡ None = find_none (λ each. bytes_eq each.input.name name) before.puts none in
-      record {
-        added = ap (λ each. option_map_or (λ p. p.faults) each shared) nothing ∙ more_faults
-            ∙ ap (λ each. min (option_map_or (λ p. p.faults) each before.faults + more) (2 ^ 64 - 1)) (sym nothing);
-        others = λ other differ some. let never : false ≡ true = subst IsSome nothing some in cc never;
-        stray = λ _. refl;
-        inputs = refl;
-        asked = refl;
-        opened = refl;
-      }
-
--- what holds of each element holds of the one that is found
-pub All-find : {X : Type 0} (P : X → Type 0) (p : X → Bool) (xs : List X) (x : X) → All P xs → find p xs ≡ Some x → P x
-All-find P p xs x all found =
-    let at : slice_get xs (position_or_len p xs) ≡ Some x = sym (find_at p xs) ∙ found in
-    subst P (get_or_from_slice_get xs (position_or_len p xs) x x at) (all (position_or_len p xs) x (slice_get_within xs (position_or_len p xs) x at))
-
--- the count of each name is in range
-pub faults_of-bound : (place : Inputs) → All IsPut place.puts → place.faults < 2 ^ 64 → (name : List ℕ) → faults_of place name < 2 ^ 64
-faults_of-bound place all shared name =
-    elim (put_under place.puts name) as (λ o. put_under place.puts name ≡ o → option_map_or (λ p. p.faults) o place.faults < 2 ^ 64) [
-      | None ↦ λ _. shared
-      | Some put ↦ λ found. (All-find IsPut (λ each. bytes_eq each.input.name name) place.puts put all found).1
-    ] refl
-
--- no count falls where more faults are counted
-pub Counts-never_falls : (before after : Inputs) (name : List ℕ) (more : ℕ) → All IsPut before.puts → before.faults < 2 ^ 64 → Counts before after name more → NoneFalls (faults_of before) (faults_of after)
-Counts-never_falls before after name more all shared counts other =
-    let here : faults_of before name ≤ faults_of after name =
-    rw counts.added (let bound = faults_of-bound before all shared name in omega (arith, bound)) in
-    let there : name ≢ other → faults_of before other ≤ faults_of after other = λ differ.
-    elim (put_under before.puts name) as (λ o. put_under before.puts name ≡ o → faults_of before other ≤ faults_of after other) [
-      | Some put ↦ λ found.
-          let same = counts.others other (λ is. differ (sym is)) (subst IsSome (sym found) refl) in
-          omega (arith, same)
-      | None ↦ λ none.
-          let e1 : faults_of before name ≡ before.faults = ap (λ o. option_map_or (λ p. p.faults) o before.faults) none in
-          let e2 : faults_of after name ≡ after.faults =
-          ap (λ puts. option_map_or (λ p. p.faults) (put_under puts name) after.faults) (counts.stray none)
-          ∙ ap (λ o. option_map_or (λ p. p.faults) o after.faults) none in
-          let shared_grow : before.faults ≤ after.faults = omega (arith, e1, e2, here) in
-          rw (ap (λ puts. option_map_or (λ p. p.faults) (put_under puts other) after.faults) (counts.stray none))
-          (elim (put_under before.puts other) as (λ o. option_map_or (λ p. p.faults) o before.faults ≤ option_map_or (λ p. p.faults) o after.faults) [
-            | Some put ↦ omega arith
-            | None ↦ shared_grow
-          ])
-    ] refl in
-    elim (bytes_eq name other) as (λ b. bytes_eq name other ≡ b → faults_of before other ≤ faults_of after other) [
-      | true ↦ λ same. subst (λ q. faults_of before q ≤ faults_of after q) ((bytes_eq-Decides name other).0 same) here
-      | false ↦ λ fails. there (λ same. true≢false (sym ((bytes_eq-Decides name other).1 same) ∙ fails))
-    ] refl
+  -- no count falls where more faults are counted
+  pub NoneFalls-counting : (before marked now : Shelf X) (name : List ℕ) (more : ℕ) → AllInRange before.faults → marked.faults ≡ before.faults → now ≡ counting marked name more
+      → NoneFalls before.faults now.faults
+  NoneFalls-counting before marked now name more in_range same is other =
+      let here : marked.faults other ≡ before.faults other = ap (λ (f : List ℕ → ℕ). f other) same in
+      let bound = in_range other in
+      let P : Shelf X → Type 0 = λ s. before.faults other ≤ s.faults other in
+      subst P (sym is)
+      (elim (shares_count marked name other) as (λ b. before.faults other ≤ cond b (counted (marked.faults other) more) (marked.faults other)) [
+        | true ↦ omega (arith, here, bound)
+        | false ↦ omega (arith, here)
+      ])

@@ -1,6 +1,7 @@
 -- Sources and sinks in memory. Their calls are numbered from 0, and they say which numbers fail.
 use Rattle.std.specs.Prelude.{ℕ, ◌+◌, ◌-◌, ◌^◌, List, ◌++◌, length, take, drop, min, Option, None, Some, Bool, false, ◌==◌, ◌&&◌, ◌||◌, nat_lt, nat_le, if◌then◌else◌}
 use Rattle.std.specs.List.{list_any}
+use Rattle.spd_edge.specs.Counts.{counted}
 
 -- whether the call of this number is one of those that fail; past the last number, 2^64 - 1, none is
 abbrev pub is_failing : List ℕ → Option ℕ → Bool
@@ -11,10 +12,6 @@ is_failing fail (Some number) = list_any (λ failing. failing == number) fail
 abbrev pub number_after : Option ℕ → Option ℕ
 number_after None = None
 number_after (Some number) = if nat_lt number (2 ^ 64 - 1) then Some (number + 1) else None
-
--- a count of faults after one more
-abbrev pub counted : ℕ → ℕ
-counted faults = min (faults + 1) (2 ^ 64 - 1)
 
 -- a source in memory: its name, the bytes that it has left, how many it gives at most in one call,
 -- which calls fail, the number of the next call, and the count of its faults
@@ -36,7 +33,7 @@ after_giving input bytes = record input { left = drop (length bytes) input.left;
 
 -- the source after a call that failed
 abbrev pub after_no_read : Input → Input
-after_no_read input = record input { next = number_after input.next; faults = counted input.faults }
+after_no_read input = record input { next = number_after input.next; faults = counted input.faults 1 }
 
 -- a sink in memory: its name, the bytes that it took, how many it takes in all, how many it takes
 -- at most in one call, which calls fail, the number of the next call, and the count of its faults
@@ -67,4 +64,4 @@ after_taking output bytes = record output { taken = output.taken ++ bytes; next 
 
 -- the sink after a call that failed
 abbrev pub after_no_write : Output → Output
-after_no_write output = record output { next = number_after output.next; faults = counted output.faults }
+after_no_write output = record output { next = number_after output.next; faults = counted output.faults 1 }

@@ -1,5 +1,4 @@
-//! Sources and sinks in memory, for tests. Their calls are numbered from 0, and which numbers fail
-//! is said when they are made.
+//! Sources and sinks in memory, whose calls are numbered from 0 and fail at the numbers that were given.
 ghost use Rattle.std.specs.Prelude.{◌≡◌, ◌+◌, ◌-◌, ◌^◌, ◌<◌, ◌≤◌, [], ◌++◌, length, drop, vec_len, vec_capacity, ◌↔◌, Some, IsTrue, IsErr, IfOk, OnOk, OnErr};
 ghost use Rattle.spd_edge.specs.Memory.{Input, Output, is_failing, number_after, bytes_given, after_giving, after_no_read, is_refusing, bytes_taken, after_taking, after_no_write};
 
@@ -81,11 +80,20 @@ impl MemIn {
     }
 
     /// The same source under another name.
-    pub(crate) fn renamed(&self, name: &[u8]) -> Result<MemIn, Memory>
-        ensures { IfOk result (λ input. input ≡ record self.now { name = name.now }) }
+    pub(crate) fn named(self, name: &[u8]) -> Result<MemIn, Memory>
+        ensures { IfOk result (λ input. input ≡ record self { name = name.now }) }
+    {
+        let mut input = self;
+        input.name = name.to_vec(*input.bytes.allocator())?;
+        Ok(input)
+    }
+
+    /// A copy of it.
+    pub(crate) fn copied(&self) -> Result<MemIn, Memory>
+        ensures { IfOk result (λ input. input ≡ self.now) }
     {
         Ok(MemIn {
-            name: name.to_vec(*self.name.allocator())?,
+            name: self.name.clone()?,
             bytes: self.bytes.clone()?,
             given: self.given,
             most: self.most,
@@ -185,6 +193,46 @@ impl MemOut {
         ensures { result.now ≡ self.now.taken }
     {
         &self.taken
+    }
+
+    /// The name under which it was opened.
+    pub fn name(&self) -> &[u8]
+        ensures { result.now ≡ self.now.name }
+    {
+        &self.name
+    }
+
+    /// How many of its writes failed.
+    pub fn faults(&self) -> u64
+        ensures { result ≡ self.now.faults }
+    {
+        self.faults
+    }
+
+    /// The same sink under another name.
+    pub(crate) fn named(self, name: &[u8]) -> Result<MemOut, Memory>
+        ensures { IfOk result (λ output. output ≡ record self { name = name.now }) }
+    {
+        let mut output = self;
+        output.name = name.to_vec(*output.taken.allocator())?;
+        Ok(output)
+    }
+
+    /// A copy of it, with memory for its room.
+    pub(crate) fn copied(&self) -> Result<MemOut, Memory>
+        ensures { IfOk result (λ output. output ≡ self.now) }
+    {
+        let mut taken = Vec::with_capacity(*self.taken.allocator(), self.room)?;
+        taken.extend_from_slice(&self.taken)?;
+        Ok(MemOut {
+            name: self.name.clone()?,
+            taken,
+            room: self.room,
+            most: self.most,
+            fail: self.fail.clone()?,
+            next: self.next,
+            faults: self.faults,
+        })
     }
 
     /// Begins a call, and says whether it is one of those that fail.

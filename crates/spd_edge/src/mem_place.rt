@@ -1,134 +1,143 @@
-//! A place in memory, for tests.
-ghost use Rattle.std.specs.Prelude.{◌≡◌, ◌≢◌, ℕ, ◌+◌, ◌-◌, ◌^◌, ◌<◌, ◌⊎◌, [], ◌∷◌, List, ◌++◌, min, position, Some, None, true, false, IsSome, IfOk, OnOk, OnErr, All};
-ghost use Rattle.std.specs.Str.{bytes_eq};
-ghost use Rattle.spd_edge.specs.Names.{NoneFalls, SameButFor, is_among, without};
-ghost use Rattle.spd_edge.specs.MemoryPlace.{Counts, Inputs, put_under, input_under, bytes_under, faults_of, IsPut};
+//! A place in memory: inputs and outputs that were put there under names.
+ghost use Rattle.std.specs.Prelude.{◌≡◌, ◌≢◌, ℕ, ◌^◌, ◌<◌, ◌≤◌, List, [], None, Some, IsSome, IfOk, OnOk, OnErr, IfSome, option_map, option_copied};
+ghost use Rattle.spd_edge.specs.Counts.{AllInRange, NoneFalls};
+ghost use Rattle.spd_edge.specs.Direction.{AfterOpen, Closes};
+ghost use Rattle.spd_edge.specs.Names.{SameButFor, updated};
+ghost use Rattle.spd_edge.specs.MemoryPlace.{AllPut, IsUnread, IsUnwritten, MemoryPlace, OpensOn, closed_on, empty_shelf, inputs_of, outputs_of, input_direction, output_direction, shelf_of};
+ghost use Rattle.spd_edge.specs.declared.outside.Open.TheVariants as Open;
+ghost use Rattle.spd_edge.specs.declared.outside.Stage.TheVariants as Stage;
 
-use crate::in_memory::MemIn;
-use crate::names::Names;
+use crate::in_memory::{MemIn, MemOut};
 use crate::outside::{Memory, Open, Place};
+use crate::shelf::Shelf;
 use std::alloc::Global;
 use std::marker::Model;
 
-/// An input that was put in a place, under the name that it shows, and the count of faults of this
-/// name.
-#[derive(Drop)]
-struct Put {
-    input: MemIn,
-    faults: u64,
-}
-
-/// The place in the list of the first input that was put under a name.
-fn find_put(puts: &[Put], name: &[u8]) -> Option<usize>
-    ensures { result ≡ position (λ put. bytes_eq put.input.name name.now) puts.now }
-{
-    puts.iter().position(|put| put.input.name() == name)
-}
-
-/// A place in memory: an input is put there under a name, and is opened by it. Opens of other names
-/// fail, and all these names share one count of faults.
+/// A place in memory: inputs and outputs are put there under names, and are opened by them. In each
+/// direction opens of other names fail, and all these names share one count of faults.
 #[derive(Drop)]
 pub struct MemPlace {
-    puts: Vec<Put>,
-    asked: Names,
-    opened: Names,
-    faults: u64,
+    inputs: Shelf<MemIn>,
+    outputs: Shelf<MemOut>,
 }
 
 impl Model for MemPlace {
-    ghost Value = { Inputs };
+    ghost Value = { MemoryPlace };
 
-    ghost view = { λ place. record { puts = place.puts.items; asked = place.asked; opened = place.opened; faults = place.faults } };
+    ghost view = { λ place. record { inputs = place.inputs; outputs = place.outputs } };
 
-    ghost invariant = { λ place. All IsPut place.puts.items };
+    ghost invariant = { λ place. AllPut IsUnread (shelf_of place.inputs) × AllPut IsUnwritten (shelf_of place.outputs) };
 }
 
 impl MemPlace {
-    /// A place with no inputs.
+    /// A place with no inputs and no outputs.
     pub fn new(alloc: Global) -> MemPlace
-        ensures { result ≡ record { puts = []; asked = []; opened = []; faults = 0 } }
+        ensures inputs { inputs_of result ≡ empty_shelf }
+        ensures outputs { outputs_of result ≡ empty_shelf }
     {
         MemPlace {
-            puts: Vec::new(alloc),
-            asked: Names::new(alloc),
-            opened: Names::new(alloc),
-            faults: 0,
+            inputs: Shelf::new(alloc),
+            outputs: Shelf::new(alloc),
         }
     }
 
     /// Puts an input there, which shows the name from then on. The count of the name begins at that
-    /// of the names that weren't put.
+    /// of the names under which nothing was put.
     pub fn put_in(&mut self, name: &[u8], input: MemIn) -> Result<(), Memory>
-        requires new_name { put_under self.old.puts name.now ≡ None }
+        requires new_name { (inputs_of self.old).put name.now ≡ None }
         requires no_fault_yet { input.faults ≡ 0 }
 
-        ensures ok { OnOk result (self.new ≡ record self.old { puts = self.old.puts ++ record { input = record input { name = name.now }; faults = self.old.faults } ∷ [] }) }
+        ensures ok { OnOk result (inputs_of self.new ≡ record (inputs_of self.old) { put = updated (inputs_of self.old).put name.now (Some (record input { name = name.now })) }) }
+        ensures outputs { outputs_of self.new ≡ outputs_of self.old }
         ensures err { OnErr result (self.new ≡ self.old) }
     {
-        let input = input.renamed(name)?;
-        self.puts.push(Put {
-            input,
-            faults: self.faults,
-        })?;
+        let input = input.named(name)?;
+        self.inputs.put(name, input)?;
         Ok(())
     }
 
-    /// Counts more faults of a name.
-    fn count_faults(&mut self, name: &[u8], more: u64)
-        ensures counts { Counts self.old self.new name.now more }
-        ensures shared { put_under self.old.puts name.now ≡ None → self.new ≡ record self.old { faults = min (self.old.faults + more) (2 ^ 64 - 1) } }
-        ensures never_falls { NoneFalls (faults_of self.old) (faults_of self.new) }
-        ensures count { (q : List ℕ) → faults_of self.new q < 2 ^ 64 }
+    /// Puts an output there, which shows the name from then on. The count of the name begins at that
+    /// of the names under which nothing was put.
+    pub fn put_out(&mut self, name: &[u8], output: MemOut) -> Result<(), Memory>
+        requires new_name { (outputs_of self.old).put name.now ≡ None }
+        requires no_fault_yet { output.faults ≡ 0 }
+        requires empty { output.taken ≡ [] }
+
+        ensures ok { OnOk result (outputs_of self.new ≡ record (outputs_of self.old) { put = updated (outputs_of self.old).put name.now (Some (record output { name = name.now })) }) }
+        ensures inputs { inputs_of self.new ≡ inputs_of self.old }
+        ensures err { OnErr result (self.new ≡ self.old) }
     {
-        match find_put(&self.puts, name) {
-            Some(at) => {
-                let put = &mut self.puts[at];
-                put.faults = put.faults.saturating_add(more);
-            }
-            None => self.faults = self.faults.saturating_add(more),
+        let output = output.named(name)?;
+        self.outputs.put(name, output)?;
+        Ok(())
+    }
+
+    /// The bytes that a closed output took. `None` exactly where no output of that name was closed.
+    pub fn taken(&self, name: &[u8]) -> Option<&[u8]>
+        ensures { option_copied result ≡ option_map (λ output. output.taken) ((outputs_of self.now).closed name.now) }
+    {
+        match self.outputs.closed(name) {
+            Some(output) => Some(output.taken()),
+            None => None,
         }
     }
 }
 
-#[tactic(auto, using(crate::proofs::NamesLemmas::names))]
 impl Place for MemPlace {
     type In = MemIn;
 
-    ghost faults_in = { faults_of };
+    type Out = MemOut;
 
-    ghost asked_in = { λ place. is_among place.asked };
+    ghost inputs = { λ place. input_direction (inputs_of place) };
 
-    ghost is_open_in = { λ place. is_among place.opened };
-
-    ghost holds_in = { λ place. bytes_under place.puts };
+    ghost outputs = { λ place. output_direction (outputs_of place) };
 
     fn open_in(&mut self, name: &[u8]) -> Result<MemIn, Open>
-        requires { is_among self.old.asked name.now ≡ false }
-        ensures input { IfOk result (λ input. Some input ≡ input_under self.old.puts name.now) }
-        ensures ok { OnOk result (self.new ≡ record self.old { asked = self.old.asked ++ name.now ∷ []; opened = self.old.opened ++ name.now ∷ [] }) }
-        ensures failed { result ≡ Err Open.Failed → put_under self.old.puts name.now ≡ None }
-        ensures counted { result ≡ Err Open.Failed → self.new ≡ record self.old { asked = self.old.asked ++ name.now ∷ []; faults = min (self.old.faults + 1) (2 ^ 64 - 1) } }
-        ensures memory { result ≡ Err Open.Memory → (self.new ≡ self.old) ⊎ (self.new ≡ record self.old { asked = self.old.asked ++ name.now ∷ [] }) }
+        requires { (inputs_of self.old).stage name.now ≡ None }
+        ensures opens { OpensOn (inputs_of self.old) (inputs_of self.new) name.now result }
+        ensures outputs { outputs_of self.new ≡ outputs_of self.old }
 
-        // The trait's clauses, but those that follow from these.
-        ensures opened { OnOk result (is_among self.new.opened name.now ≡ true) }
-        ensures other_open { SameButFor (is_among self.old.opened) (is_among self.new.opened) name.now }
-        ensures asked { result ≢ Err Open.Memory → is_among self.new.asked name.now ≡ true }
-        ensures other_asked { SameButFor (is_among self.old.asked) (is_among self.new.asked) name.now }
+        // Of the trait's clauses, those that do not follow.
         ensures named { IfOk result (λ input. input.name ≡ name.now) }
         ensures no_fault_yet { IfOk result (λ input. input.faults ≡ 0) }
-        ensures never_falls { NoneFalls (faults_of self.old) (faults_of self.new) }
-        ensures count { (q : List ℕ) → faults_of self.new q < 2 ^ 64 }
+        ensures inputs { AfterOpen (input_direction (inputs_of self.old)) (input_direction (inputs_of self.new)) name.now result }
+        ensures never_falls { NoneFalls (inputs_of self.old).faults (inputs_of self.new).faults }
+        ensures in_range { AllInRange (inputs_of self.new).faults }
     {
-        self.asked.push(name)?;
-        match find_put(&self.puts, name) {
-            Some(at) => {
-                let input = self.puts[at].input.renamed(name)?;
-                self.opened.push(name)?;
+        match self.inputs.object(name) {
+            Some(input) => {
+                let input = input.copied()?;
+                self.inputs.mark_open(name);
                 Ok(input)
             }
             None => {
-                self.count_faults(name, 1);
+                self.inputs.refuse(name)?;
+                Err(Open::Failed)
+            }
+        }
+    }
+
+    fn open_out(&mut self, name: &[u8]) -> Result<MemOut, Open>
+        requires { (outputs_of self.old).stage name.now ≡ None }
+        ensures opens { OpensOn (outputs_of self.old) (outputs_of self.new) name.now result }
+        ensures inputs { inputs_of self.new ≡ inputs_of self.old }
+
+        // Of the trait's clauses, those that do not follow.
+        ensures named { IfOk result (λ output. output.name ≡ name.now) }
+        ensures no_fault_yet { IfOk result (λ output. output.faults ≡ 0) }
+        ensures empty { IfOk result (λ output. output.taken ≡ []) }
+        ensures outputs { AfterOpen (output_direction (outputs_of self.old)) (output_direction (outputs_of self.new)) name.now result }
+        ensures never_falls { NoneFalls (outputs_of self.old).faults (outputs_of self.new).faults }
+        ensures in_range { AllInRange (outputs_of self.new).faults }
+    {
+        match self.outputs.object(name) {
+            Some(output) => {
+                let output = output.copied()?;
+                self.outputs.mark_open(name);
+                Ok(output)
+            }
+            None => {
+                self.outputs.refuse(name)?;
                 Err(Open::Failed)
             }
         }
@@ -136,22 +145,34 @@ impl Place for MemPlace {
 
     fn close_in(&mut self, name: &[u8], input: MemIn)
         requires named { input.name ≡ name.now }
-        requires is_open { is_among self.old.opened name.now ≡ true }
-        ensures opened { self.new.opened ≡ without self.old.opened name.now }
-        ensures asked { self.new.asked ≡ self.old.asked }
-        ensures inputs { input_under self.new.puts ≡ input_under self.old.puts }
-        ensures holds { bytes_under self.new.puts ≡ bytes_under self.old.puts }
-        ensures added { faults_of self.new name.now ≡ min (faults_of self.old name.now + input.faults) (2 ^ 64 - 1) }
-        ensures others { (q : List ℕ) → q ≢ name.now → IsSome (put_under self.old.puts name.now) → faults_of self.new q ≡ faults_of self.old q }
+        requires is_open { (inputs_of self.old).stage name.now ≡ Some Stage.Open }
+        ensures closes { inputs_of self.new ≡ closed_on (inputs_of self.old) name.now input input.faults }
+        ensures outputs { outputs_of self.new ≡ outputs_of self.old }
 
-        // The trait's clauses, but those that follow from these.
-        ensures closed { is_among self.new.opened name.now ≡ false }
-        ensures other_open { SameButFor (is_among self.old.opened) (is_among self.new.opened) name.now }
-        ensures no_fault { input.faults ≡ 0 → faults_of self.new ≡ faults_of self.old }
-        ensures never_falls { NoneFalls (faults_of self.old) (faults_of self.new) }
-        ensures count { (q : List ℕ) → faults_of self.new q < 2 ^ 64 }
+        // Of the trait's clauses, those that do not follow.
+        ensures holds { (input_direction (inputs_of self.new)).holds ≡ (input_direction (inputs_of self.old)).holds }
+        ensures inputs { Closes (input_direction (inputs_of self.old)) (input_direction (inputs_of self.new)) name.now input.faults }
+        ensures never_falls { NoneFalls (inputs_of self.old).faults (inputs_of self.new).faults }
+        ensures in_range { AllInRange (inputs_of self.new).faults }
     {
-        self.opened.remove(name);
-        self.count_faults(name, input.faults());
+        let faults = input.faults();
+        self.inputs.close(name, input, faults);
+    }
+
+    fn close_out(&mut self, name: &[u8], output: MemOut)
+        requires named { output.name ≡ name.now }
+        requires is_open { (outputs_of self.old).stage name.now ≡ Some Stage.Open }
+        ensures closes { outputs_of self.new ≡ closed_on (outputs_of self.old) name.now output output.faults }
+        ensures inputs { inputs_of self.new ≡ inputs_of self.old }
+
+        // Of the trait's clauses, those that do not follow.
+        ensures holds { (output_direction (outputs_of self.new)).holds name.now ≡ Some output.taken }
+        ensures other_holds { SameButFor (output_direction (outputs_of self.old)).holds (output_direction (outputs_of self.new)).holds name.now }
+        ensures outputs { Closes (output_direction (outputs_of self.old)) (output_direction (outputs_of self.new)) name.now output.faults }
+        ensures never_falls { NoneFalls (outputs_of self.old).faults (outputs_of self.new).faults }
+        ensures in_range { AllInRange (outputs_of self.new).faults }
+    {
+        let faults = output.faults();
+        self.outputs.close(name, output, faults);
     }
 }

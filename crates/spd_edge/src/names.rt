@@ -1,6 +1,6 @@
-//! The names that a place keeps.
+//! A list of names.
 ghost use Rattle.std.specs.Prelude.{◌≡◌, [], ◌∷◌, ◌++◌, OnOk, OnErr};
-ghost use Rattle.spd_edge.specs.Names.{without};
+ghost use Rattle.spd_edge.specs.Names.{is_among};
 
 use crate::outside::Memory;
 use std::alloc::Global;
@@ -53,6 +53,13 @@ impl Names {
         }
     }
 
+    /// Whether a name is among them.
+    pub(crate) fn contains(&self, name: &[u8]) -> bool
+        ensures { result ≡ is_among self.now name.now }
+    {
+        self.names.iter().any(|other| other.as_bytes() == name)
+    }
+
     /// Puts a name after the others.
     pub(crate) fn push(&mut self, name: &[u8]) -> Result<(), Memory>
         ensures ok { OnOk result (self.new ≡ self.old ++ name.now ∷ []) }
@@ -61,12 +68,5 @@ impl Names {
         let bytes = name.to_vec(self.alloc)?;
         self.names.push(Name { bytes })?;
         Ok(())
-    }
-
-    /// Takes a name away, wherever it stands.
-    pub(crate) fn remove(&mut self, name: &[u8])
-        ensures { self.new ≡ without self.old name.now }
-    {
-        self.names.retain(|other| other.as_bytes() != name);
     }
 }

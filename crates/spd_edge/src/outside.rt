@@ -1,10 +1,12 @@
-//! The traits of the outside, and its faults.
-ghost use Rattle.std.specs.Prelude.{◌≡◌, ◌≢◌, ℕ, ◌+◌, ◌-◌, ◌^◌, ◌<◌, ◌≤◌, List, Option, Bool, true, false, length, take, min, IfOk, OnOk, OnErr};
-ghost use Rattle.spd_edge.specs.Names.{NoneFalls, SameButFor};
-ghost use Rattle.spd_edge.specs.Counts.{Rose};
+//! The traits of the outside, its faults, and how far a place came with a name.
+ghost use Rattle.std.specs.Prelude.{◌≡◌, ℕ, ◌^◌, ◌<◌, ◌≤◌, List, [], Option, None, Some, length, take, IfOk, IfSome, OnOk, OnErr};
+ghost use Rattle.spd_edge.specs.Counts.{AllInRange, NoneFalls, Rose};
+ghost use Rattle.spd_edge.specs.Direction.{AfterOpen, Closes, Direction};
+ghost use Rattle.spd_edge.specs.Names.{SameButFor};
 ghost use Rattle.spd_edge.specs.Told.{Gave, IsAtEnd, Took};
 ghost use Rattle.spd_edge.specs.declared.outside.Open.TheVariants as Open;
 ghost use Rattle.spd_edge.specs.declared.outside.ReadAll.TheVariants as ReadAll;
+ghost use Rattle.spd_edge.specs.declared.outside.Stage.TheVariants as Stage;
 
 use std::alloc::AllocError;
 
@@ -117,65 +119,88 @@ pub trait Sink: Opened {
         ensures named { Self.name self.new ≡ Self.name self.old };
 }
 
-/// Where inputs are opened by their names. A name is opened once, and its input is given back to
-/// `close_in`.
+/// How far a place came with a name that it was asked to open, in one direction.
+#[derive(Clone, Copy, Debug, PartialEq, Eq)]
+pub enum Stage {
+    /// It didn't open it.
+    Unopened,
+    /// It opened it, and it wasn't closed yet.
+    Open,
+    /// It opened it, and it was closed.
+    Closed,
+}
+
+/// Where inputs and outputs are opened by their names, `-` for the standard ones. In each direction a
+/// name is opened once, and what was opened is given back to `close_in` or `close_out`.
 pub trait Place {
     /// An opened input.
-    type In: Source;
+    type In: Source + Send;
 
-    /// The count of faults of each name: opens that failed, and what closed inputs counted. A
-    /// count at 2^64 - 1 stays there.
-    ghost faults_in: { Self → List ℕ → ℕ };
+    /// An opened output.
+    type Out: Sink + Send;
 
-    /// Whether it was asked to open a name.
-    ghost asked_in: { Self → List ℕ → Bool };
+    /// What it shows of its inputs. A name's count of faults: opens that failed, and what closed inputs
+    /// counted. A count at 2^64 - 1 stays there.
+    ghost inputs: { Self → Direction };
 
-    /// Whether a name is open.
-    ghost is_open_in: { Self → List ℕ → Bool };
+    /// What it shows of its outputs, with counts of their own.
+    ghost outputs: { Self → Direction };
 
-    /// The bytes that it holds under each name, where it tells them.
-    ghost holds_in: { Self → List ℕ → Option (List ℕ) };
-
-    /// Opens the input of a name that it wasn't asked for before.
+    /// Opens the input of a name that it wasn't asked for as an input before.
     ///
     /// # Errors
     ///
     /// `Failed` where the outside doesn't open it, which counts a fault of that name, and `Memory`.
     fn open_in(&mut self, name: &[u8]) -> Result<Self::In, Open>
-        requires { asked_in self.old name.now ≡ false }
+        requires { (inputs self.old).stage name.now ≡ None }
 
         ensures named { IfOk result (λ input. Self.In.name input ≡ name.now) }
         ensures no_fault_yet { IfOk result (λ input. Self.In.faults input ≡ 0) }
-        ensures contents { IfOk result (λ input. Self.In.left input ≡ holds_in self.old name.now) }
+        ensures contents { IfOk result (λ input. Self.In.left input ≡ (inputs self.old).holds name.now) }
 
-        ensures opened { OnOk result (is_open_in self.new name.now ≡ true) }
-        ensures other_open { SameButFor (is_open_in self.old) (is_open_in self.new) name.now }
-        ensures not_opened { OnErr result (is_open_in self.new ≡ is_open_in self.old) }
+        ensures inputs { AfterOpen (inputs self.old) (inputs self.new) name.now result }
+        ensures never_falls { NoneFalls (inputs self.old).faults (inputs self.new).faults }
+        ensures in_range { AllInRange (inputs self.new).faults }
+        ensures outputs { outputs self.new ≡ outputs self.old };
 
-        // For want of memory the name may not be noted.
-        ensures asked { result ≢ Err Open.Memory → asked_in self.new name.now ≡ true }
-        ensures other_asked { SameButFor (asked_in self.old) (asked_in self.new) name.now }
+    /// Opens the output of a name that it wasn't asked for as an output before.
+    ///
+    /// # Errors
+    ///
+    /// `Failed` where the outside doesn't open it, which counts a fault of that name, and `Memory`.
+    fn open_out(&mut self, name: &[u8]) -> Result<Self::Out, Open>
+        requires { (outputs self.old).stage name.now ≡ None }
 
-        ensures failed { result ≡ Err Open.Failed → Rose (faults_in self.old name.now) (faults_in self.new name.now) }
-        ensures no_fault { result ≢ Err Open.Failed → faults_in self.new ≡ faults_in self.old }
-        ensures never_falls { NoneFalls (faults_in self.old) (faults_in self.new) }
-        ensures count { (q : List ℕ) → faults_in self.new q < 2 ^ 64 }
+        ensures named { IfOk result (λ output. Self.Out.name output ≡ name.now) }
+        ensures no_fault_yet { IfOk result (λ output. Self.Out.faults output ≡ 0) }
+        ensures empty { IfOk result (λ output. IfSome (Self.Out.taken output) (λ taken. taken ≡ [])) }
 
-        ensures holds { holds_in self.new ≡ holds_in self.old };
+        ensures outputs { AfterOpen (outputs self.old) (outputs self.new) name.now result }
+        ensures never_falls { NoneFalls (outputs self.old).faults (outputs self.new).faults }
+        ensures in_range { AllInRange (outputs self.new).faults }
+        ensures inputs { inputs self.new ≡ inputs self.old };
 
-    /// Closes the input of an open name. Its faults are added to the name's count.
+    /// Closes the input of a name that is open. Its faults are added to the name's count.
     fn close_in(&mut self, name: &[u8], input: Self::In)
         requires named { Self.In.name input ≡ name.now }
-        requires is_open { is_open_in self.old name.now ≡ true }
+        requires is_open { (inputs self.old).stage name.now ≡ Some Stage.Open }
 
-        ensures closed { is_open_in self.new name.now ≡ false }
-        ensures other_open { SameButFor (is_open_in self.old) (is_open_in self.new) name.now }
-        ensures asked { asked_in self.new ≡ asked_in self.old }
+        ensures inputs { Closes (inputs self.old) (inputs self.new) name.now (Self.In.faults input) }
+        ensures holds { (inputs self.new).holds ≡ (inputs self.old).holds }
+        ensures never_falls { NoneFalls (inputs self.old).faults (inputs self.new).faults }
+        ensures in_range { AllInRange (inputs self.new).faults }
+        ensures outputs { outputs self.new ≡ outputs self.old };
 
-        ensures added { faults_in self.new name.now ≡ min (faults_in self.old name.now + Self.In.faults input) (2 ^ 64 - 1) }
-        ensures no_fault { Self.In.faults input ≡ 0 → faults_in self.new ≡ faults_in self.old }
-        ensures never_falls { NoneFalls (faults_in self.old) (faults_in self.new) }
-        ensures count { (q : List ℕ) → faults_in self.new q < 2 ^ 64 }
+    /// Closes the output of a name that is open. Its faults are added to the name's count, and a place
+    /// that tells what it holds now holds what the output took.
+    fn close_out(&mut self, name: &[u8], output: Self::Out)
+        requires named { Self.Out.name output ≡ name.now }
+        requires is_open { (outputs self.old).stage name.now ≡ Some Stage.Open }
 
-        ensures holds { holds_in self.new ≡ holds_in self.old };
+        ensures outputs { Closes (outputs self.old) (outputs self.new) name.now (Self.Out.faults output) }
+        ensures holds { (outputs self.new).holds name.now ≡ Self.Out.taken output }
+        ensures other_holds { SameButFor (outputs self.old).holds (outputs self.new).holds name.now }
+        ensures never_falls { NoneFalls (outputs self.old).faults (outputs self.new).faults }
+        ensures in_range { AllInRange (outputs self.new).faults }
+        ensures inputs { inputs self.new ≡ inputs self.old };
 }

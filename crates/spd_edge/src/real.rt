@@ -1,138 +1,36 @@
-//! The system's files and standard streams. Nothing is told of their bytes: this is the edge that is
-//! trusted.
-ghost use Rattle.std.specs.Prelude.{◌≡◌, ◌+◌, ◌-◌, ◌^◌, ◌<◌, ◌≤◌, ℕ, List, [], length, take, min, None, false, IfOk, OnOk, OnErr};
-ghost use Rattle.std.specs.Io.KnownBytes.{Appends, Consumes, IsAtEnd, Keeps};
-ghost use Rattle.spd_edge.specs.Names.{is_among};
-ghost use Rattle.spd_edge.specs.Real.{Openings, stream_remaining};
+//! The place of the system: its files and standard streams. It tells no bytes, and is the edge that is trusted.
+ghost use Rattle.std.specs.Prelude.{◌≡◌, ◌^◌, ◌<◌, ◌≤◌, ℕ, List, [], None, Some, IfOk, IsErr, OnOk, OnErr, IfErr};
+ghost use Rattle.spd_edge.specs.Counts.{AllInRange, NoneFalls, counted};
+ghost use Rattle.spd_edge.specs.Direction.{Closes, staged};
+ghost use Rattle.spd_edge.specs.declared.outside.Open.TheVariants as Open;
+ghost use Rattle.spd_edge.specs.declared.outside.Stage.TheVariants as Stage;
 
-use crate::names::Names;
-use crate::outside::{Failed, Open, Opened, Place, Sink, Source};
-use std::fs::File;
-use std::io::{Read, Stderr, Stdin, Stdout, Write};
+use crate::openings::Openings;
+use crate::outside::{Memory, Open, Place, Stage};
+use crate::streams::{ReaderIn, WriterOut};
+use std::alloc::Global;
+use std::io::{Input, Print, Read, Write};
 use std::marker::Model;
 use std::rt::Files;
 use std::{fs, io, str};
 
-/// A reader of the system as a source.
+/// The standard output, as a writer that keeps no byte back.
 #[derive(Drop)]
-pub struct ReaderIn<R> {
-    pub name: Vec<u8>,
-    pub reader: R,
-    pub faults: u64,
-    ghost in_range: { faults < 2 ^ 64 },
+pub struct Printed<R> {
+    rt: R,
 }
 
-/// An opened file as a source.
-pub type FileIn = ReaderIn<File>;
+impl<R: Print> Write for Printed<R> {
+    fn write(&mut self, buf: &[u8]) -> io::Result<usize> {
+        self.rt.write_some(buf)
+    }
 
-/// Standard input as a source.
-pub type StdIn = ReaderIn<Stdin>;
-
-impl<R: Read> ReaderIn<R> {
-    /// A source that reads from a reader and shows a name. Its count of faults begins at 0.
-    pub fn new(name: Vec<u8>, reader: R) -> Self
-        ensures named { result.name.items ≡ name.items }
-        ensures reader { result.reader ≡ reader }
-        ensures no_fault_yet { result.faults ≡ 0 }
-    {
-        ReaderIn {
-            name,
-            reader,
-            faults: 0,
-        }
+    fn flush(&mut self) -> io::Result<()> {
+        Ok(())
     }
 }
 
-impl<R: Read> Opened for ReaderIn<R> {
-    ghost name = { λ input. input.name.items };
-}
-
-impl<R: Read> Source for ReaderIn<R> {
-    ghost faults = { λ input. input.faults };
-
-    ghost left = { λ _. None };
-
-    fn read(&mut self, buf: &mut [u8]) -> Result<usize, Failed>
-        ensures within { IfOk result (λ n. n ≤ length buf.old) }
-
-        // Where the reader's bytes are known, they are passed on.
-        ensures given { IfOk result (λ n. Consumes (R.remaining self.old.reader) (R.remaining self.new.reader) (take n buf.new)) }
-        ensures end { IfOk result (λ n. n ≡ 0 → 0 < length buf.old → IsAtEnd (R.remaining self.new.reader)) }
-        ensures failed_gave_nothing { OnErr result (Keeps (R.remaining self.old.reader) (R.remaining self.new.reader)) }
-
-        ensures ok { OnOk result (self.new.faults ≡ self.old.faults) }
-        ensures failed { OnErr result (self.new.faults ≡ min (self.old.faults + 1) (2 ^ 64 - 1)) }
-        ensures never_falls { self.old.faults ≤ self.new.faults }
-        ensures count { self.new.faults < 2 ^ 64 }
-        ensures named { self.new.name ≡ self.old.name }
-    {
-        match self.reader.read(buf) {
-            Ok(n) => Ok(n),
-            Err(_) => {
-                self.faults = self.faults.saturating_add(1);
-                Err(Failed)
-            }
-        }
-    }
-}
-
-/// A writer of the system as a sink.
-#[derive(Drop)]
-pub struct WriterOut<W> {
-    pub writer: W,
-    pub faults: u64,
-    ghost in_range: { faults < 2 ^ 64 },
-}
-
-/// Standard output as a sink.
-pub type StdOut = WriterOut<Stdout>;
-
-/// Standard error as a sink.
-pub type StdErr = WriterOut<Stderr>;
-
-impl<W: Write> WriterOut<W> {
-    /// A sink that writes to a writer. Its name is empty, and its count of faults begins at 0.
-    pub fn new(writer: W) -> Self
-        ensures writer { result.writer ≡ writer }
-        ensures no_fault_yet { result.faults ≡ 0 }
-    {
-        WriterOut { writer, faults: 0 }
-    }
-}
-
-impl<W: Write> Opened for WriterOut<W> {
-    ghost name = { λ _. [] };
-}
-
-impl<W: Write> Sink for WriterOut<W> {
-    ghost faults = { λ output. output.faults };
-
-    ghost taken = { λ _. None };
-
-    fn write(&mut self, piece: &[u8]) -> Result<usize, Failed>
-        ensures within { IfOk result (λ n. n ≤ length piece.now) }
-        ensures progress { IfOk result (λ n. 0 < length piece.now → 0 < n) }
-
-        // Where the writer's bytes are known, it takes these.
-        ensures given { IfOk result (λ n. Appends (W.contents self.old.writer) (W.contents self.new.writer) (take n piece.now)) }
-        ensures failed_gave_nothing { OnErr result (Keeps (W.contents self.old.writer) (W.contents self.new.writer)) }
-
-        ensures ok { OnOk result (self.new.faults ≡ self.old.faults) }
-        ensures failed { OnErr result (self.new.faults ≡ min (self.old.faults + 1) (2 ^ 64 - 1)) }
-        ensures never_falls { self.old.faults ≤ self.new.faults }
-        ensures count { self.new.faults < 2 ^ 64 }
-    {
-        match self.writer.write(piece) {
-            Ok(n) if n > 0 || piece.is_empty() => Ok(n),
-            _ => {
-                self.faults = self.faults.saturating_add(1);
-                Err(Failed)
-            }
-        }
-    }
-}
-
-/// What `RealPlace` reads an input from.
+/// What the place of the system reads an input from, or writes an output to.
 #[derive(Drop)]
 pub enum Stream<F, S> {
     File(F),
@@ -140,7 +38,9 @@ pub enum Stream<F, S> {
 }
 
 impl<F: Read, S: Read> Read for Stream<F, S> {
-    ghost remaining = { stream_remaining F.remaining S.remaining };
+    ghost use Rattle.spd_edge.specs.Real.{told_by_stream};
+
+    ghost remaining = { told_by_stream F.remaining S.remaining };
 
     fn read(&mut self, buf: &mut [u8]) -> io::Result<usize> {
         match self {
@@ -150,68 +50,97 @@ impl<F: Read, S: Read> Read for Stream<F, S> {
     }
 }
 
-/// Opens the file of a name, or standard input for `-`.
-fn open_stream<R: Files + Input>(rt: &R, name: &[u8]) -> io::Result<Stream<R::File, R::Reader>> {
-    if name == b"-".as_slice() {
-        return Ok(Stream::Standard(rt.reader()));
+impl<F: Write, S: Write> Write for Stream<F, S> {
+    ghost use Rattle.spd_edge.specs.Real.{told_by_stream};
+
+    ghost contents = { told_by_stream F.contents S.contents };
+
+    fn write(&mut self, buf: &[u8]) -> io::Result<usize> {
+        match self {
+            Stream::File(file) => file.write(buf),
+            Stream::Standard(stdout) => stdout.write(buf),
+        }
     }
-    match str::from_utf8(name) {
-        Ok(path) => Ok(Stream::File(fs::open(rt, path)?)),
-        Err(_) => Err(io::Error::from(io::ErrorKind::InvalidInput)),
-    }
-}
 
-/// The system's files by their paths, and standard input as `-`. Every name has one and the same
-/// count of faults.
-#[derive(Drop)]
-pub struct RealPlace<R> {
-    rt: R,
-    asked: Names,
-    opened: Names,
-    faults: u64,
-}
-
-impl<R> Model for RealPlace<R> {
-    ghost Value = { Openings };
-
-    ghost view = { λ place. record { asked = place.asked; opened = place.opened; faults = place.faults } };
-
-    ghost invariant = { λ place. place.faults < 2 ^ 64 };
-}
-
-impl<R: Files + Input + AllocGlobal> RealPlace<R> {
-    /// A place that was asked for no name. Its counts of faults begin at 0.
-    pub fn new(rt: R) -> Self
-        ensures { result ≡ record { asked = []; opened = []; faults = 0 } }
-    {
-        RealPlace {
-            asked: Names::new(rt.alloc()),
-            opened: Names::new(rt.alloc()),
-            rt,
-            faults: 0,
+    fn flush(&mut self) -> io::Result<()> {
+        match self {
+            Stream::File(file) => file.flush(),
+            Stream::Standard(stdout) => stdout.flush(),
         }
     }
 }
 
-#[tactic(auto, using(crate::proofs::NamesLemmas::names))]
-impl<R: Files + Input + AllocGlobal> Place for RealPlace<R> {
-    type In = ReaderIn<Stream<R::File, R::Reader>>;
+/// The path that a name is, where it is text.
+fn path_of(name: &[u8]) -> io::Result<&str> {
+    match str::from_utf8(name) {
+        Ok(path) => Ok(path),
+        Err(_) => Err(io::Error::from(io::ErrorKind::InvalidInput)),
+    }
+}
 
-    ghost faults_in = { λ place _. place.faults };
+/// Opens the file of a name to read it, or standard input for `-`.
+fn open_to_read<R: Files + Input>(rt: &R, name: &[u8]) -> io::Result<Stream<R::File, R::Reader>> {
+    if name == b"-".as_slice() {
+        return Ok(Stream::Standard(rt.reader()));
+    }
+    Ok(Stream::File(fs::open(rt, path_of(name)?)?))
+}
 
-    ghost asked_in = { λ place. is_among place.asked };
+/// Opens the file of a name to write it from its front, or standard output for `-`. A file that isn't
+/// there is made, and one that is loses what it held.
+fn open_to_write<R: Files + Print + Copy>(
+    rt: &R,
+    name: &[u8],
+) -> io::Result<Stream<R::File, Printed<R>>> {
+    if name == b"-".as_slice() {
+        return Ok(Stream::Standard(Printed { rt: *rt }));
+    }
+    Ok(Stream::File(fs::create(rt, path_of(name)?)?))
+}
 
-    ghost is_open_in = { λ place. is_among place.opened };
+/// One direction of the place: the names that it was asked to open, and one count of faults for all of them.
+#[derive(Drop)]
+struct RealDirection {
+    openings: Openings,
+    faults: u64,
+    ghost in_range: { faults < 2 ^ 64 },
+}
 
-    ghost holds_in = { λ _ _. None };
+impl RealDirection {
+    ghost use Rattle.spd_edge.specs.Real.{shown_by};
 
-    fn open_in(&mut self, name: &[u8]) -> Result<Self::In, Open> {
-        self.asked.push(name)?;
-        let shown = name.to_vec(self.rt.alloc())?;
-        match open_stream(&self.rt, name) {
+    fn new(alloc: Global) -> RealDirection
+        ensures openings { result.openings ≡ [] }
+        ensures no_fault_yet { result.faults ≡ 0 }
+    {
+        RealDirection {
+            openings: Openings::new(alloc),
+            faults: 0,
+        }
+    }
+
+    /// Notes that a name is to be opened.
+    fn ask(&mut self, name: &[u8]) -> Result<(), Memory>
+        requires { (shown_by self.old).stage name.now ≡ None }
+        ensures ok { OnOk result (shown_by self.new ≡ staged (shown_by self.old) name.now Stage.Unopened) }
+        ensures err { OnErr result (self.new ≡ self.old) }
+    {
+        self.openings.ask(name)
+    }
+
+    /// Notes how the open of a name went, where the system's answer is known.
+    fn settle<T>(&mut self, name: &[u8], opened: io::Result<T>) -> Result<T, Open>
+        requires { (shown_by self.old).stage name.now ≡ Some Stage.Unopened }
+        ensures ok { IfOk result (λ stream. opened ≡ Ok stream) }
+        ensures opened { OnOk result (shown_by self.new ≡ staged (shown_by self.old) name.now Stage.Open) }
+        ensures err { IfErr result (λ e. e ≡ Open.Failed) }
+        ensures not_opened { OnErr result (IsErr opened) }
+        ensures failed { OnErr result (shown_by self.new ≡ record (shown_by self.old) { faults = λ other. counted ((shown_by self.old).faults other) 1 }) }
+    {
+        match opened {
             Ok(stream) => {
-                self.opened.push(name)?;
-                Ok(ReaderIn::new(shown, stream))
+                self.openings.set(name, Stage::Open);
+                Ok(stream)
             }
             Err(_) => {
                 self.faults = self.faults.saturating_add(1);
@@ -220,8 +149,88 @@ impl<R: Files + Input + AllocGlobal> Place for RealPlace<R> {
         }
     }
 
+    /// Notes that an object that counted these faults is closed.
+    fn close(&mut self, name: &[u8], faults: u64)
+        requires { (shown_by self.old).stage name.now ≡ Some Stage.Open }
+        ensures closes { Closes (shown_by self.old) (shown_by self.new) name.now faults }
+        ensures never_falls { NoneFalls (shown_by self.old).faults (shown_by self.new).faults }
+    {
+        self.openings.set(name, Stage::Closed);
+        self.faults = self.faults.saturating_add(faults);
+    }
+}
+
+/// The system's files by their paths, and standard input and output as `-`. In each direction every name has
+/// one and the same count of faults.
+#[derive(Drop)]
+pub struct RealPlace<R> {
+    rt: R,
+    inputs: RealDirection,
+    outputs: RealDirection,
+}
+
+impl<R> Model for RealPlace<R> {
+    ghost use Rattle.spd_edge.specs.Real.{RealDirections};
+
+    ghost Value = { RealDirections };
+
+    ghost view = { λ place. record { inputs = place.inputs; outputs = place.outputs } };
+}
+
+impl<R: AllocGlobal> RealPlace<R> {
+    ghost use Rattle.spd_edge.specs.Real.{shown_by};
+
+    /// A place that was asked for no name. Its counts of faults begin at 0.
+    pub fn new(rt: R) -> Self
+        ensures inputs { (name : List ℕ) → (shown_by result.inputs).stage name ≡ None }
+        ensures outputs { (name : List ℕ) → (shown_by result.outputs).stage name ≡ None }
+        ensures no_fault_yet { (name : List ℕ) → ((shown_by result.inputs).faults name ≡ 0) × ((shown_by result.outputs).faults name ≡ 0) }
+    {
+        RealPlace {
+            inputs: RealDirection::new(rt.alloc()),
+            outputs: RealDirection::new(rt.alloc()),
+            rt,
+        }
+    }
+}
+
+impl<R> Place for RealPlace<R>
+where
+    R: Files + Input + Print + AllocGlobal + Copy + Send,
+    R::File: Send,
+    R::Reader: Send,
+{
+    ghost use Rattle.spd_edge.specs.Real.{shown_by};
+
+    type In = ReaderIn<Stream<R::File, R::Reader>>;
+
+    type Out = WriterOut<Stream<R::File, Printed<R>>>;
+
+    ghost inputs = { λ place. shown_by place.inputs };
+
+    ghost outputs = { λ place. shown_by place.outputs };
+
+    fn open_in(&mut self, name: &[u8]) -> Result<Self::In, Open> {
+        let shown = name.to_vec(self.rt.alloc())?;
+        self.inputs.ask(name)?;
+        let opened = open_to_read(&self.rt, name);
+        let stream = self.inputs.settle(name, opened)?;
+        Ok(ReaderIn::new(shown, stream))
+    }
+
+    fn open_out(&mut self, name: &[u8]) -> Result<Self::Out, Open> {
+        let shown = name.to_vec(self.rt.alloc())?;
+        self.outputs.ask(name)?;
+        let opened = open_to_write(&self.rt, name);
+        let stream = self.outputs.settle(name, opened)?;
+        Ok(WriterOut::new(shown, stream))
+    }
+
     fn close_in(&mut self, name: &[u8], input: Self::In) {
-        self.opened.remove(name);
-        self.faults = self.faults.saturating_add(input.faults);
+        self.inputs.close(name, input.faults());
+    }
+
+    fn close_out(&mut self, name: &[u8], output: Self::Out) {
+        self.outputs.close(name, output.faults());
     }
 }

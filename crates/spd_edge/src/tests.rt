@@ -1,12 +1,15 @@
-ghost use Rattle.std.specs.Prelude.{◌≡◌, ◌≤◌, IfOk};
+//! Happy paths, real files and streams, and faults in mid-stream.
+ghost use Rattle.std.specs.Prelude.{◌≡◌, ◌≤◌, [], IfOk};
 
 use crate::{
-    Failed, FileIn, MemIn, MemOut, MemPlace, Open, Place, ReadAll, ReaderIn, RealPlace, Sink,
-    Source, StdErr, StdIn, StdOut, WriterOut, read_all, write_all_of,
+    Failed, FileIn, FileOut, MemIn, MemOut, MemPlace, Open, Place, ReadAll, ReaderIn, RealPlace,
+    Sink, Source, StdErr, StdIn, StdOut, WriterOut, read_all, write_all_of,
 };
-use std::fs;
+use std::alloc::AllocError;
 use std::fs::File;
+use std::io::Write;
 use std::test::Fail;
+use std::{fs, io};
 
 fn mem_in(rt: &HostRuntime, bytes: &[u8], most: usize, fail: &[u64]) -> Result<MemIn, Fail>
     requires { 1 ≤ most }
@@ -14,6 +17,15 @@ fn mem_in(rt: &HostRuntime, bytes: &[u8], most: usize, fail: &[u64]) -> Result<M
 {
     let bytes = bytes.to_vec(rt.alloc())?;
     Ok(MemIn::new(bytes, most, fail.to_vec(rt.alloc())?))
+}
+
+fn mem_out(rt: &HostRuntime, room: usize, most: usize, fail: &[u64]) -> Result<MemOut, Fail>
+    requires { 1 ≤ most }
+    ensures faults { IfOk result (λ output. output.faults ≡ 0) }
+    ensures taken { IfOk result (λ output. output.taken ≡ []) }
+{
+    let fail = fail.to_vec(rt.alloc())?;
+    Ok(MemOut::new(rt.alloc(), room, most, fail)?)
 }
 
 #[test]
@@ -52,34 +64,77 @@ fn reads_many_chunks(rt: HostRuntime) -> Result<(), Fail> {
 fn writes_until_a_write_fails(rt: HostRuntime) -> Result<(), Fail> {
     let cases = [(99, [2].as_slice()), (8, [].as_slice())];
     for (room, fail) in cases {
-        let fail = fail.to_vec(rt.alloc())?;
-        let mut output = MemOut::new(rt.alloc(), room, 4, fail)?;
+        let mut output = mem_out(&rt, room, 4, fail)?;
         assert_eq!(rt; write_all_of(&mut output, b"hello world!"), Err(Failed));
         assert_eq!(rt; output.taken(), b"hello wo".as_slice());
     }
-    let mut output = MemOut::new(rt.alloc(), 12, 5, Vec::new(rt.alloc()))?;
+    let mut output = mem_out(&rt, 12, 5, &[])?;
     assert_eq!(rt; write_all_of(&mut output, b"hello world!"), Ok(()));
     assert_eq!(rt; output.taken(), b"hello world!".as_slice());
     Ok(())
 }
 
+/// What a place in memory reads under a name, where `hello` was put under `a`: nothing where the name
+/// isn't opened.
+fn read_put(
+    rt: &HostRuntime,
+    name: &[u8],
+    fail: &[u64],
+) -> Result<Option<Result<Vec<u8>, ReadAll>>, Fail> {
+    let mut place = MemPlace::new(rt.alloc());
+    place.put_in(b"a", mem_in(rt, b"hello", 3, fail)?)?;
+    match place.open_in(name) {
+        Ok(mut input) => {
+            let read = read_all(rt.alloc(), &mut input, 9);
+            place.close_in(name, input);
+            Ok(Some(read))
+        }
+        Err(Open::Failed) => Ok(None),
+        Err(Open::Memory) => Err(Fail::from(AllocError)),
+    }
+}
+
 #[test]
 fn opens_what_was_put(rt: HostRuntime) -> Result<(), Fail> {
+    let read = read_put(&rt, b"a", &[])?.ok_or("not opened")?;
+    assert_eq!(rt; read?.as_slice(), b"hello".as_slice());
+    let failed = read_put(&rt, b"a", &[0])?.ok_or("not opened")?;
+    assert!(rt; matches!(failed, Err(ReadAll::Fault)));
+    assert!(rt; read_put(&rt, b"b", &[])?.is_none());
+    Ok(())
+}
+
+/// The fault count of an output that was put under `a` and that was written to under a name, and what it
+/// took: nothing where the name isn't opened.
+fn write_put(rt: &HostRuntime, name: &[u8], fail: &[u64]) -> Result<Option<(u64, Vec<u8>)>, Fail> {
     let mut place = MemPlace::new(rt.alloc());
-    place.put_in(b"a", mem_in(&rt, b"hello", 3, &[])?)?;
-    place.put_in(b"-", mem_in(&rt, b"bye", 3, &[0])?)?;
-    let mut a = place.open_in(b"a")?;
-    assert!(rt; matches!(place.open_in(b"b"), Err(Open::Failed)));
-    assert_eq!(rt; a.name(), b"a".as_slice());
-    assert_eq!(rt;
-        read_all(rt.alloc(), &mut a, 9)?.as_slice(),
-        b"hello".as_slice()
-    );
-    let mut standard = place.open_in(b"-")?;
-    assert!(rt; matches!(read_all(rt.alloc(), &mut standard, 9), Err(ReadAll::Fault)));
-    assert_eq!(rt; standard.faults(), 1);
-    place.close_in(b"a", a);
-    place.close_in(b"-", standard);
+    place.put_out(b"a", mem_out(rt, 99, 4, fail)?)?;
+    let mut output = match place.open_out(name) {
+        Ok(output) => output,
+        Err(Open::Failed) => return Ok(None),
+        Err(Open::Memory) => return Err(Fail::from(AllocError)),
+    };
+    let _ = write_all_of(&mut output, b"hello world!");
+    let faults = output.faults();
+    place.close_out(name, output);
+    match place.taken(name) {
+        Some(taken) => Ok(Some((faults, taken.to_vec(rt.alloc())?))),
+        None => Err(Fail::from("not closed")),
+    }
+}
+
+#[test]
+fn keeps_what_outputs_took(rt: HostRuntime) -> Result<(), Fail> {
+    let cases = [
+        ([].as_slice(), 0, b"hello world!".as_slice()),
+        ([2].as_slice(), 1, b"hello wo".as_slice()),
+    ];
+    for (fail, want_faults, want) in cases {
+        let (faults, taken) = write_put(&rt, b"a", fail)?.ok_or("not opened")?;
+        assert_eq!(rt; faults, want_faults);
+        assert_eq!(rt; taken.as_slice(), want);
+    }
+    assert!(rt; write_put(&rt, b"b", &[])?.is_none());
     Ok(())
 }
 
@@ -134,13 +189,67 @@ fn reads_real_streams(rt: HostRuntime) -> Result<(), Fail> {
     Ok(())
 }
 
+/// Writes some bytes to the output of a name, which a place of its own opens.
+fn write_real(rt: &HostRuntime, name: &[u8], bytes: &[u8]) -> Result<Result<(), Failed>, Open> {
+    let mut place = RealPlace::new(*rt);
+    let mut output = place.open_out(name)?;
+    let written = write_all_of(&mut output, bytes);
+    place.close_out(name, output);
+    Ok(written)
+}
+
+#[test]
+fn writes_real_files(rt: HostRuntime) -> Result<(), Fail> {
+    let path = "spd_edge-test-output";
+    fs::write(&rt, path, "longer than what follows")?;
+    let written = write_real(&rt, path.as_bytes(), b"hello");
+    let read = read_real(&rt, path.as_bytes(), 99);
+    fs::remove_file(&rt, path)?;
+    assert_eq!(rt; written?, Ok(()));
+    assert_eq!(rt; read?.ok_or("not opened")?.as_slice(), b"hello".as_slice());
+    assert_eq!(rt; write_real(&rt, b"-", b"out\n")?, Ok(()));
+    assert_eq!(rt; write_real(&rt, b"/dev/full", b"lost")?, Err(Failed));
+    assert!(rt; matches!(write_real(&rt, b".", b"lost"), Err(Open::Failed)));
+    Ok(())
+}
+
 #[test]
 fn writes_real_streams(rt: HostRuntime) -> Result<(), Fail> {
-    let mut stdout: StdOut = WriterOut::new(rt.stdout());
+    let mut stdout: StdOut = WriterOut::new(Vec::new(rt.alloc()), rt.stdout());
     assert_eq!(rt; write_all_of(&mut stdout, b"out\n"), Ok(()));
-    let mut stderr: StdErr = WriterOut::new(rt.stderr());
+    let mut stderr: StdErr = WriterOut::new(Vec::new(rt.alloc()), rt.stderr());
     assert_eq!(rt; write_all_of(&mut stderr, b"err\n"), Ok(()));
-    let mut full = WriterOut::new(fs::OpenOptions::new().write(true).open(&rt, "/dev/full")?);
+    let full = fs::OpenOptions::new().write(true).open(&rt, "/dev/full")?;
+    let mut full: FileOut = WriterOut::new(b"full".to_vec(rt.alloc())?, full);
     assert_eq!(rt; write_all_of(&mut full, b"lost"), Err(Failed));
+    Ok(())
+}
+
+/// A writer whose second flush fails.
+#[derive(Drop)]
+struct FailsToFlush {
+    flushes: u8,
+}
+
+impl Write for FailsToFlush {
+    fn write(&mut self, buf: &[u8]) -> io::Result<usize> {
+        Ok(buf.len().min(4))
+    }
+
+    fn flush(&mut self) -> io::Result<()> {
+        self.flushes = self.flushes.saturating_add(1);
+        if self.flushes == 2 {
+            return Err(io::Error::from(io::ErrorKind::Other));
+        }
+        Ok(())
+    }
+}
+
+#[test]
+fn counts_a_flush_that_fails(rt: HostRuntime) -> Result<(), Fail> {
+    let mut output = WriterOut::new(Vec::new(rt.alloc()), FailsToFlush { flushes: 0 });
+    assert_eq!(rt; output.write(b"hello"), Ok(4));
+    assert_eq!(rt; output.write(b"hello"), Err(Failed));
+    assert_eq!(rt; output.write(b"hello"), Ok(4));
     Ok(())
 }

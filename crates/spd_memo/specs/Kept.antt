@@ -6,26 +6,26 @@ use Rattle.spd_cons_core.specs.declared.key.Entry.{Entry}
 use Rattle.lru.specs.LruCache.{promoted}
 
 -- the pairs with their answers, the most recently used first, and how many may be kept
-pub record Kept : Type 0 where
+pub record KeptAnswers : Type 0 where
   pub pairs : List ((Entry × Entry) × Entry)
   pub capacity : ℕ
 
 -- whether a pair is this one
-abbrev pub is_pair : Entry → Entry → Entry × Entry → Bool
-is_pair f g q = (f.0 == q.0.0) && (g.0 == q.1.0)
+abbrev pub is_same_pair : Entry → Entry → Entry × Entry → Bool
+is_same_pair f g q = (f.0 == q.0.0) && (g.0 == q.1.0)
 
 -- the answer that is kept for a pair
 abbrev pub answer_in : List ((Entry × Entry) × Entry) → Entry → Entry → Option Entry
-answer_in pairs f g = lookup (is_pair f g) pairs
+answer_in pairs f g = lookup (is_same_pair f g) pairs
 
 -- the pairs with this one in front, if it is kept
 abbrev pub promoted_in : List ((Entry × Entry) × Entry) → Entry → Entry → List ((Entry × Entry) × Entry)
-promoted_in pairs f g = promoted (is_pair f g) pairs
+promoted_in pairs f g = promoted (is_same_pair f g) pairs
 
 -- the pair in front with this answer; where it is new, behind it as many of the others as fit
-abbrev pub pairs_put : Kept → Entry → Entry → Entry → List ((Entry × Entry) × Entry)
-pairs_put k f g r = option_map_or (λ e. (e.0, r) ∷ remove_entry (is_pair f g) k.pairs) (lookup_entry (is_pair f g) k.pairs) (((f, g), r) ∷ take (k.capacity - 1) k.pairs)
+abbrev pub pairs_put : KeptAnswers → Entry → Entry → Entry → List ((Entry × Entry) × Entry)
+pairs_put k f g r = option_map_or (λ e. (e.0, r) ∷ remove_entry (is_same_pair f g) k.pairs) (lookup_entry (is_same_pair f g) k.pairs) (((f, g), r) ∷ take (k.capacity - 1) k.pairs)
 
 -- the memo after an answer was put
-abbrev pub put_in : Kept → Entry → Entry → Entry → Kept
+abbrev pub put_in : KeptAnswers → Entry → Entry → Entry → KeptAnswers
 put_in k f g r = record { pairs = pairs_put k f g r; capacity = k.capacity }

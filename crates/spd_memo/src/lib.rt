@@ -2,7 +2,7 @@
 #![tactic(auto)]
 
 ghost use Rattle.std.specs.Prelude.{◌≡◌, ℕ, ◌<◌, [], IfOk, OnOk, OnErr};
-ghost use Rattle.spd_memo.specs.Kept.{Kept, answer_in, promoted_in, put_in};
+ghost use Rattle.spd_memo.specs.Kept.{KeptAnswers, answer_in, promoted_in, put_in};
 
 use lru::LruCache;
 use spd_cons_core::Entry;
@@ -18,9 +18,9 @@ pub struct Memo {
 }
 
 impl Model for Memo {
-    ghost use Rattle.spd_memo.specs.Kept.{Kept};
+    ghost use Rattle.spd_memo.specs.Kept.{KeptAnswers};
 
-    ghost Value = { Kept };
+    ghost Value = { KeptAnswers };
 
     ghost view = { λ m. record { pairs = m.cache.entries; capacity = m.cache.cap } };
 }

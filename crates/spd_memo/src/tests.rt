@@ -1,3 +1,5 @@
+//! Which pair is dropped, on one row.
+
 use crate::Memo;
 use spd_cons_core::Entry;
 use std::test::Fail;

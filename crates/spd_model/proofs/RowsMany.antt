@@ -1,16 +1,19 @@
 -- The definitions, computed on small models of several variables by hand.
-use Rattle.std.proofs.Common.{◌≡◌, ℕ, true, false, List, [], ◌∷◌, ◌++◌, ℤ, pos, negsuc, codes, decimal, flat_map, refl, ◌==◌, None, Some}
+use Rattle.std.proofs.Common.{◌≡◌, ℕ, true, false, List, [], ◌∷◌, ◌++◌, ℤ, pos, negsuc, codes, decimal, flat_map, refl, zero, suc, ◌+◌, ◌<◌, ◌≢◌, length, slice_get, slice_index, Contains, None, Some, arith}
 use Rattle.hex.specs.Hex.{encode_with}
 use Rattle.spd_scaled.specs.Scaled.{floor_div, ceil_div}
 use Rattle.spd_model.specs.declared.tree.Tree.{Tree, Leaf, Named, Branch}
 use Rattle.spd_model.specs.declared.tree.Tree.TheBlock.{shape-the_row-Tree-0, hidden-the_row-Tree-0}
 use denote.Hole.Carrier
-use Rattle.spd_model.specs.declared.process.Var.{Var}
 use Rattle.spd_model.specs.declared.process.Action.{Action}
 use Rattle.spd_model.specs.Process.{Process}
 use Rattle.spd_model.specs.Chances.{first_wrong_sum}
 use Rattle.spd_model.specs.Backup.{expectation}
-use Rattle.spd_model.specs.States.{sizes, at}
+use Rattle.std.specs.Prelude.{AllPairs}
+use Rattle.std.proofs.lemmas.List.Elements.{All-nil, All-cons}
+use Rattle.spd_model.specs.declared.states.StateFault.TheVariants.{Unknown, Twice}
+use Rattle.spd_model.specs.StatePairs.{IsKnown, AreFine, Describe, HasFault}
+use Rattle.spd_model.specs.States.{sizes, states, rank, at}
 use Rattle.spd_model.specs.Turns.{turn, start_of}
 use Rattle.spd_model.specs.ResultText.{line, units, result_text}
 
@@ -170,3 +173,62 @@ no_sum-linking = refl
 sum-linking : first_wrong_sum (linking_with (Leaf (pos 500000000000))) ≡ Some (record { action = 0; var = 0; state = 0 ∷ 0 ∷ []; sum = pos 500000000000 })
 unfolding shape-the_row-Tree-0 hidden-the_row-Tree-0 denote.Hole.Carrier.hidden
 sum-linking = refl
+
+-- the state after x=a, z=only, y=r is x=b, z=only, y=p, and after the last one there is none
+next-many : (slice_get (states (sizes many)) (rank (sizes many) (0 ∷ 0 ∷ 2 ∷ []) + 1) ≡ Some (1 ∷ 0 ∷ 0 ∷ []))
+    × (slice_get (states (sizes many)) (rank (sizes many) (1 ∷ 0 ∷ 2 ∷ []) + 1) ≡ None)
+next-many = (refl, refl)
+
+-- pairs describe a state in any order: y=q, x=b, z=only
+known : (var value : ℕ) → var < length many.vars → value < slice_index (sizes many) var → IsKnown many (var, value)
+known var value near below = record { var = near; value = below }
+
+fine_none : AreFine many []
+fine_none = record { known = All-nil (IsKnown many); once = λ i j d before near. absurd (omega arith) }
+
+fine_one : (pair : ℕ × ℕ) → IsKnown many pair → AreFine many (pair ∷ [])
+fine_one pair is = record {
+  known = All-cons (IsKnown many) pair [] is (All-nil (IsKnown many));
+  once = λ i j d before near. absurd (omega arith);
+}
+
+abbrev HasValue : List ℕ → ℕ × ℕ → Type 0
+HasValue s pair = slice_index s pair.0 ≡ pair.1
+
+pairs-many : Describe many ((2, 1) ∷ (0, 1) ∷ (1, 0) ∷ []) (1 ∷ 0 ∷ 1 ∷ [])
+pairs-many = record {
+  fine = record {
+    known = All-cons (IsKnown many) (2, 1) ((0, 1) ∷ (1, 0) ∷ []) (known 2 1 (omega arith) (omega arith))
+        (All-cons (IsKnown many) (0, 1) ((1, 0) ∷ []) (known 0 1 (omega arith) (omega arith))
+        (All-cons (IsKnown many) (1, 0) [] (known 1 0 (omega arith) (omega arith)) (All-nil (IsKnown many))));
+    once = differ;
+  };
+  state = (omega arith, (omega arith, (omega arith, tt)));
+  values = All-cons (HasValue (1 ∷ 0 ∷ 1 ∷ [])) (2, 1) ((0, 1) ∷ (1, 0) ∷ []) refl (All-cons (HasValue (1 ∷ 0 ∷ 1 ∷ [])) (0, 1) ((1, 0) ∷ []) refl
+      (All-cons (HasValue (1 ∷ 0 ∷ 1 ∷ [])) (1, 0) [] refl (All-nil (HasValue (1 ∷ 0 ∷ 1 ∷ [])))));
+  all = each;
+}
+  where
+    differ : AllPairs (λ (p q : ℕ × ℕ). p.0 ≢ q.0) ((2, 1) ∷ (0, 1) ∷ (1, 0) ∷ [])
+    differ zero zero d before near same = absurd (omega arith)
+    differ zero (suc zero) d before near same = absurd (omega arith)
+    differ zero (suc (suc zero)) d before near same = absurd (omega arith)
+    differ zero (suc (suc (suc j))) d before near same = absurd (omega arith)
+    differ (suc zero) zero d before near same = absurd (omega arith)
+    differ (suc zero) (suc zero) d before near same = absurd (omega arith)
+    differ (suc zero) (suc (suc zero)) d before near same = absurd (omega arith)
+    differ (suc zero) (suc (suc (suc j))) d before near same = absurd (omega arith)
+    differ (suc (suc i)) j d before near same = absurd (omega arith)
+
+    each : (var : ℕ) → var < 3 → Contains (2 ∷ 0 ∷ 1 ∷ []) var
+    each zero near = (1, omega arith, refl)
+    each (suc zero) near = (2, omega arith, refl)
+    each (suc (suc zero)) near = (0, omega arith, refl)
+    each (suc (suc (suc var))) near = absurd (omega arith)
+
+-- z has one value; x stands twice
+unknown-many : HasFault many ((1, 1) ∷ []) (Unknown 0)
+unknown-many = (fine_none, (1, 1), refl, λ is. absurd (omega (arith, is.value)))
+
+twice-many : HasFault many ((0, 1) ∷ (0, 0) ∷ []) (Twice 1)
+twice-many = (fine_one (0, 1) (known 0 1 (omega arith) (omega arith)), (0, 0), refl, known 0 0 (omega arith) (omega arith), (0, omega arith, refl))

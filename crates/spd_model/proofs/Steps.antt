@@ -1,10 +1,10 @@
 -- From a state to the next one: the last value that can be raised, and what is behind it.
-use Rattle.std.proofs.Common.{◌≡◌, ℕ, zero, suc, ◌+◌, ◌*◌, ◌-◌, ◌<◌, ◌≤◌, List, [], ◌∷◌, ◌++◌, length, take, drop, get_or, slice_index, slice_set, replicate, All, refl, ap, sym, ◌∙◌, subst, arith, add-one, drop-cons, length-drop}
+use Rattle.std.proofs.Common.{◌≡◌, ℕ, zero, suc, ◌+◌, ◌*◌, ◌-◌, ◌<◌, ◌≤◌, List, [], ◌∷◌, ◌++◌, length, take, drop, slice_index, slice_set, replicate, All, refl, ap, sym, ◌∙◌, arith, add-one, drop-cons, length-drop}
 use Rattle.std.specs.Prelude.{slice_get, Some, None}
 use Rattle.std.proofs.lemmas.List.{take-replicate, drop-replicate}
 use Rattle.std.proofs.lemmas.List.Elements.{All-head, All-tail, All-drop}
 use Rattle.spd_model.specs.States.{states, state_count, rank, IsState}
-use Rattle.spd_model.specs.Order.{IsRaisable}
+use Rattle.spd_model.specs.Inner.Order.{IsRaisable}
 use Rattle.spd_model.proofs.CallerLemmas.StateOrder.{IsState-drop, IsState-followed_by, rank-followed_by, length-IsState, value_below, slice_get-states, none_past}
 
 -- ---- the first values

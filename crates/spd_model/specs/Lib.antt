@@ -4,7 +4,7 @@ pub mod Trees
 pub mod Lawful
 pub mod Numbers
 pub mod States
-pub mod Order
+pub mod StatePairs
 pub mod Chances
 pub mod Backup
 pub mod Ranges
@@ -13,3 +13,4 @@ pub mod Turns
 pub mod Reduced
 pub mod ResultText
 pub mod Options
+pub mod Inner

@@ -1,5 +1,5 @@
 -- The options of a run: their limits, and what holds where none is given.
-use Rattle.std.specs.Prelude.{ℕ, ◌^◌, ◌≤◌, pos, ◌≤ℤ◌}
+use Rattle.std.specs.Prelude.{◌^◌, ◌≤◌, pos, ◌≤ℤ◌}
 use Rattle.spd_model.specs.declared.options.Options.{Options}
 
 abbrev pub default_options : Options

@@ -1,5 +1,5 @@
 -- The text of a result.
-use Rattle.std.specs.Prelude.{ℕ, Bool, ◌++◌, ◌==◌, List, [], ◌∷◌, length, map, flat_map, codes, decimal, ℤ, slice_get, Some, None, zip}
+use Rattle.std.specs.Prelude.{ℕ, ◌++◌, ◌==◌, List, [], ◌∷◌, length, map, flat_map, codes, decimal, ℤ, slice_get, Some, None, zip}
 use Rattle.std.specs.List.{join_with_byte, enumerate_from}
 use Rattle.std.specs.Ordering.{int_eq}
 use Rattle.hex.specs.Hex.{encode_lower}

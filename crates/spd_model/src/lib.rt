@@ -11,6 +11,7 @@ pub use options::Options;
 pub use process::{Action, Model, Var};
 use sqlite_items::Items;
 pub use state::State;
+pub use states::StateFault;
 pub use tree::{Kids, Tree};
 
 /// The bytes of a name: of a variable, a value, an action or a decision diagram.

@@ -1,3 +1,5 @@
+//! The factored process, and the numbers that its trees come to.
+
 ghost use Rattle.std.specs.Prelude.{◌≡◌, if◌then◌else◌, All};
 ghost use Rattle.spd_model.specs.Lawful.{Fits};
 ghost use Rattle.spd_model.specs.States.{sizes, IsState};

@@ -1,3 +1,5 @@
+//! A state: the numbers of its variables' values.
+
 ghost use Rattle.std.specs.Prelude.{◌≡◌, ◌<◌, ◌≤◌, length, slice_index};
 
 use std::marker::Model;

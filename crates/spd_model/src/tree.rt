@@ -1,3 +1,5 @@
+//! Trees of numbers, names of decision diagrams and branches.
+
 use sqlite_items::Items;
 
 /// The subtrees of a branch, one per value of its variable, in the declared order of the values.

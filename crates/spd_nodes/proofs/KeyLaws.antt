@@ -2,6 +2,7 @@
 use Rattle.std.proofs.Common.{◌≡◌, ℕ, ◌<◌, inl, inr, ◌==◌, ◌&&◌, Bool, true, false, List, [], ◌∷◌, ◌++◌, length, get_or, Option, Some, None, MatchOption, is_some, slice_get, refl, sym, ◌∙◌, ap, arith, true≢false, if◌then◌else◌}
 use Rattle.std.specs.List.{list_any, position, position_or_len}
 use Rattle.std.specs.Ordering.{int_eq}
+use Rattle.std.proofs.lemmas.Bool.{and_parts, and_from}
 use Rattle.std.proofs.lemmas.Bool.Decides.{Decides-int_eq, Decides-eqb}
 use Rattle.std.proofs.lemmas.List.Folds.{list_any_at}
 use Rattle.std.proofs.lemmas.List.Sums.{position_or_len_is}
@@ -12,7 +13,6 @@ use Rattle.spd_cons_core.specs.declared.key.Key.{Key}
 use Rattle.spd_cons_core.specs.declared.key.Key.TheVariants as K
 use Rattle.spd_cons_core.specs.contracts.key.KeyPartialEq.TheImpl.{eq-value}
 use Rattle.spd_nodes.specs.Keys.{IsPlace, IsAbsent, PlacesKey}
-use Rattle.spd_nodes.proofs.TreeLaws.{both, both_true}
 
 -- the derived `==`
 abbrev pub key_eq : Key → Key → Bool
@@ -23,15 +23,15 @@ same_entry a b e = let h : a.0 ≡ b.0 = (Decides-eqb a.0 b.0).0 e in λ i. reco
 
 pub key_eq-true : (a b : Key) → key_eq a b ≡ true → a ≡ b
 key_eq-true (K.Test l y n) (K.Test k v m) e =
-    let s : (l == k ≡ true) × ((y.0 == v.0 && n.0 == m.0) ≡ true) = both _ _ e in
-    let r : (y.0 == v.0 ≡ true) × (n.0 == m.0 ≡ true) = both _ _ s.1 in
+    let s : (l == k ≡ true) × ((y.0 == v.0 && n.0 == m.0) ≡ true) = and_parts _ _ e in
+    let r : (y.0 == v.0 ≡ true) × (n.0 == m.0 ≡ true) = and_parts _ _ s.1 in
     let a : l ≡ k = (Decides-eqb l k).0 s.0 in
     let b : y ≡ v = same_entry y v r.0 in
     let c : n ≡ m = same_entry n m r.1 in
     λ i. K.Test (a i) (b i) (c i)
 key_eq-true (K.Num a) (K.Num b) e = ap K.Num ((Decides-int_eq a b).0 e)
 key_eq-true (K.Pair a x) (K.Pair b y) e =
-    let s : (int_eq a b ≡ true) × (int_eq x y ≡ true) = both _ _ e in
+    let s : (int_eq a b ≡ true) × (int_eq x y ≡ true) = and_parts _ _ e in
     let p : a ≡ b = (Decides-int_eq a b).0 s.0 in
     let q : x ≡ y = (Decides-int_eq x y).0 s.1 in
     λ i. K.Pair (p i) (q i)
@@ -50,9 +50,9 @@ key_eq-true (K.Act a) (K.Num b) e = absurd (cc e)
 key_eq-true (K.Act a) (K.Pair b x) e = absurd (cc e)
 
 pub key_eq-refl : (a : Key) → key_eq a a ≡ true
-key_eq-refl (K.Test l y n) = both_true _ _ ((Decides-eqb l l).1 refl) (both_true _ _ ((Decides-eqb y.0 y.0).1 refl) ((Decides-eqb n.0 n.0).1 refl))
+key_eq-refl (K.Test l y n) = and_from _ _ ((Decides-eqb l l).1 refl) (and_from _ _ ((Decides-eqb y.0 y.0).1 refl) ((Decides-eqb n.0 n.0).1 refl))
 key_eq-refl (K.Num a) = (Decides-int_eq a a).1 refl
-key_eq-refl (K.Pair a x) = both_true _ _ ((Decides-int_eq a a).1 refl) ((Decides-int_eq x x).1 refl)
+key_eq-refl (K.Pair a x) = and_from _ _ ((Decides-int_eq a a).1 refl) ((Decides-int_eq x x).1 refl)
 key_eq-refl (K.Act a) = (Decides-eqb a a).1 refl
 
 -- a key that no look-up finds stands at no place

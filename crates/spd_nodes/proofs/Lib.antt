@@ -1,9 +1,15 @@
+pub mod CallerLemmas
 pub mod KeyLaws
 pub mod LayoutLaws
+pub mod MadeLaws
 pub mod RankLaws
 pub mod RefLaws
 pub mod ShownLaws
+pub mod SlotLaws
 pub mod StateLaws
 pub mod StoreLaws
+pub mod TestLaws
 pub mod TreeLaws
 pub mod ValueLaws
+pub mod KnownTreeLaws
+pub mod GroveLaws

@@ -3,7 +3,7 @@ use Rattle.std.proofs.Common.{◌≡◌, ℕ, zero, suc, ◌+◌, ◌<◌, ◌�
 use Rattle.std.specs.Prelude.{Contains}
 use Rattle.std.specs.List.{IsDistinct, list_any}
 use Rattle.std.specs.Set.{is_member}
-use Rattle.std.specs.Cmp.{IsEquivalence}
+use Rattle.std.specs.Cmp.{IsEquivalence, both_ways}
 use Rattle.std.proofs.lemmas.Bool.Decides.{Decides-eqb}
 use Rattle.std.proofs.Math.ListN.{get_or-append}
 use Rattle.std.proofs.Math.Seq.{get_or-append_seam, take-append_seam}
@@ -14,7 +14,7 @@ use Rattle.std.proofs.lemmas.Map.Made.{length-from_keys}
 use Rattle.std.proofs.lemmas.Map.Views.{list_any-from_Contains, Contains-from_any}
 use Rattle.spd_cons_core.specs.declared.key.Entry.{Entry}
 use Rattle.spd_nodes.specs.declared.leaf.Leaf.{Leaf}
-use Rattle.spd_nodes.specs.Trees.{Tree, Ends, Tests, tree_eq, IsNode, Itself, InYes, InNo, nodes_of}
+use Rattle.spd_nodes.specs.Trees.{Tree, Ends, Tests, tree_eq, IsNode, Itself, InYes, InNo, subtrees_of}
 use Rattle.spd_nodes.specs.Shown.{Shown, IsSound}
 use Rattle.spd_nodes.specs.Refs.{entry_eq, AddsRef, HasTree, HasChildren, ChildrenFirst, IsClosed, Visits, IsReached, node_count}
 use Rattle.spd_nodes.proofs.KeyLaws.{same_entry}
@@ -72,22 +72,17 @@ out-of [] i d e q h = absurd (omega arith)
 out-of (r ∷ refs) zero d e q h = h
 out-of (r ∷ refs) (suc i) d e q h = out-of refs i d e (omega arith) h
 
-both-ways : (a b : Bool) → (a ≡ true → b ≡ true) → (b ≡ true → a ≡ true) → a ≡ b
-both-ways true b f g = sym (f refl)
-both-ways false true f g = g refl
-both-ways false false f g = refl
-
 Contains-cons : {X : Type 0} (x y : X) (xs : List X) → Contains xs x → Contains (y ∷ xs) x
 Contains-cons x y xs m = (suc m.0, omega (arith, m.1), m.2)
 
 -- the list of a tree's nodes has the tree's nodes
-pub nodes-node : (x t : Tree) → IsNode x t → Contains (nodes_of t) x
+pub nodes-node : (x t : Tree) → IsNode x t → Contains (subtrees_of t) x
 nodes-node x (Ends a) h = (0, omega arith, sym (leaf-node x a h))
 nodes-node x (Tests l y n) h = elim (node-cases x y n l h) [
   | inl e ↦ (0, omega arith, sym e)
   | inr e ↦ elim e [
-    | inl i ↦ Contains-cons x (Tests l y n) (nodes_of y ++ nodes_of n) (Contains-append_left (nodes_of y) (nodes_of n) x (nodes-node x y i))
-    | inr i ↦ Contains-cons x (Tests l y n) (nodes_of y ++ nodes_of n) (Contains-append_right (nodes_of y) (nodes_of n) x (nodes-node x n i))
+    | inl i ↦ Contains-cons x (Tests l y n) (subtrees_of y ++ subtrees_of n) (Contains-append_left (subtrees_of y) (subtrees_of n) x (nodes-node x y i))
+    | inr i ↦ Contains-cons x (Tests l y n) (subtrees_of y ++ subtrees_of n) (Contains-append_right (subtrees_of y) (subtrees_of n) x (nodes-node x n i))
   ]
 ]
 
@@ -95,14 +90,14 @@ Contains-head : {X : Type 0} (x y : X) (xs : List X) → Contains (y ∷ xs) x �
 Contains-head x y xs (zero, q, e) = inl e
 Contains-head x y xs (suc i, q, e) = inr (i, omega arith, e)
 
-pub node-nodes : (x t : Tree) → Contains (nodes_of t) x → IsNode x t
+pub node-nodes : (x t : Tree) → Contains (subtrees_of t) x → IsNode x t
 node-nodes x (Ends a) h = elim (Contains-head x (Ends a) [] h) [
   | inl e ↦ subst (λ v. IsNode v (Ends a)) e Itself
   | inr m ↦ absurd (omega (arith, m.1))
 ]
-node-nodes x (Tests l y n) h = elim (Contains-head x (Tests l y n) (nodes_of y ++ nodes_of n) h) [
+node-nodes x (Tests l y n) h = elim (Contains-head x (Tests l y n) (subtrees_of y ++ subtrees_of n) h) [
   | inl e ↦ subst (λ v. IsNode v (Tests l y n)) e Itself
-  | inr m ↦ elim (Contains-append_cases (nodes_of y) (nodes_of n) x m) [
+  | inr m ↦ elim (Contains-append_cases (subtrees_of y) (subtrees_of n) x m) [
     | inl i ↦ InYes (node-nodes x y i)
     | inr i ↦ InNo (node-nodes x n i)
   ]
@@ -200,19 +195,19 @@ module _ (s : Shown) where
         let k : get_or refs i r ≡ get_or refs j r = o.once _ _ (h.known _ (Contains-get_or refs i r p)) (h.known _ (Contains-get_or refs j r q)) e in
         true≢false (sym (entry_laws.refl (get_or refs j r)) ∙ subst (λ (v : Entry). entry_eq v (get_or refs j r) ≡ false) k apart))))
 
-    node-there : (x : Tree) → is_member tree_eq trees x ≡ true → is_member tree_eq (nodes_of (s.tree r)) x ≡ true
+    node-there : (x : Tree) → is_member tree_eq trees x ≡ true → is_member tree_eq (subtrees_of (s.tree r)) x ≡ true
     node-there x e =
         let m : Contains trees x = Contains-from_any tree_eq-true x trees e in
         let q : m.0 < length refs = omega (arith, m.1, length-map refs s.tree) in
         let t : s.tree (get_or refs m.0 r) ≡ x = sym (tree-at m.0 x q) ∙ m.2 in
-        list_any-from_Contains tree_laws x (nodes_of (s.tree r)) (nodes-node x (s.tree r) (subst (λ v. IsNode v (s.tree r)) t (h.nodes _ (Contains-get_or refs m.0 r q))))
+        list_any-from_Contains tree_laws x (subtrees_of (s.tree r)) (nodes-node x (s.tree r) (subst (λ v. IsNode v (s.tree r)) t (h.nodes _ (Contains-get_or refs m.0 r q))))
 
-    there-node : (x : Tree) → is_member tree_eq (nodes_of (s.tree r)) x ≡ true → is_member tree_eq trees x ≡ true
+    there-node : (x : Tree) → is_member tree_eq (subtrees_of (s.tree r)) x ≡ true → is_member tree_eq trees x ≡ true
     there-node x e =
-        let k : HasTree s refs x = h.all x (node-nodes x (s.tree r) (Contains-from_any tree_eq-true x (nodes_of (s.tree r)) e)) in
+        let k : HasTree s refs x = h.all x (node-nodes x (s.tree r) (Contains-from_any tree_eq-true x (subtrees_of (s.tree r)) e)) in
         let m : Contains refs k.ref = k.is_in in
         let t : get_or trees m.0 x ≡ x = tree-at m.0 x m.1 ∙ ap s.tree (out-of refs m.0 r k.ref m.1 m.2) ∙ k.tree in
         list_any-from_Contains tree_laws x trees (m.0, omega (arith, m.1, length-map refs s.tree), t)
 
     pub node_count-reached : length refs ≡ node_count (s.tree r)
-    node_count-reached = sym (length-map refs s.tree) ∙ length-from_keys tree_laws trees (nodes_of (s.tree r)) distinct-trees (λ x. both-ways (is_member tree_eq trees x) (is_member tree_eq (nodes_of (s.tree r)) x) (node-there x) (there-node x))
+    node_count-reached = sym (length-map refs s.tree) ∙ length-from_keys tree_laws trees (subtrees_of (s.tree r)) distinct-trees (λ x. both_ways (is_member tree_eq trees x) (is_member tree_eq (subtrees_of (s.tree r)) x) (node-there x) (there-node x))

@@ -1,12 +1,12 @@
 -- Calls one after the other: what they show, make and lack together.
-use Rattle.std.proofs.Common.{◌≡◌, ℕ, ap, inl, inr, List, [], ◌∷◌, ◌++◌, refl, sym, ◌∙◌, subst, true, Bool, IsTrue, ◌==◌}
+use Rattle.std.proofs.Common.{◌≡◌, ℕ, ap, inl, inr, List, [], ◌∷◌, ◌++◌, refl, sym, ◌∙◌, subst, true, Bool, IsTrue, ◌==◌, Ok, Err}
 use Rattle.std.proofs.lemmas.Bool.Decides.{Decides-eqb}
 use Rattle.spd_cons_core.specs.declared.key.Entry.{Entry}
 use Rattle.spd_nodes.specs.declared.forest.StoreFault.{StoreFault}
 use Rattle.spd_nodes.specs.declared.forest.StoreFault.TheVariants as F
 use Rattle.spd_nodes.specs.Trees.{Tree, IsNode, IsNodeOf, IsAt}
 use Rattle.spd_nodes.specs.States.{Function, test_tree, Agree, AgreePast}
-use Rattle.spd_nodes.specs.Shown.{Shown, IsSound, Grows, MakesOnly, LacksOne, Faults, IsWhole, meaning, StandsFor}
+use Rattle.spd_nodes.specs.Shown.{Shown, IsSound, Grows, MakesOnly, LacksOne, Faults, KnowsAs, MakesTree, IsWhole, meaning, StandsFor}
 use Rattle.spd_nodes.proofs.StateLaws.{positive-slots, test_tree-value, test_tree-function_of, tree-unique, part-unique}
 
 -- all nodes of some trees are nodes of others
@@ -68,6 +68,13 @@ lacks-within w h = record { full = h.full; node = h.node; is_node = w.nodes h.no
 pub faults-within : (e : StoreFault) (t : Shown) {ts us : List Tree} → Within ts us → Faults e t ts → Faults e t us
 faults-within F.Full t w h = lacks-within w h
 faults-within F.Memory t w h = tt
+
+-- a call that made nothing new: it knew the tree, or had no memory
+pub makes_tree-known : (s : Shown) → IsSound s → (r : Entry) (t : Tree) → KnowsAs s r t → MakesTree s s t (Ok r)
+makes_tree-known s o r t k = record { sound = o; grows = grows-none s; ok = k; makes = makes-none s (t ∷ []); fault = tt }
+
+pub makes_tree-fault : (s : Shown) → IsSound s → (e : StoreFault) (t : Tree) → Faults e s (t ∷ []) → MakesTree s s t (Err e)
+makes_tree-fault s o e t f = record { sound = o; grows = grows-none s; ok = tt; makes = makes-none s (t ∷ []); fault = f }
 
 -- a known whole entry whose function is `f` at all states stands for `f`
 pub stands-for : (s : Shown) → IsSound s → (r : Entry) (f : Function) → s.knows r ≡ true → IsWhole s r → Agree s.sizes (meaning s r) f → StandsFor s r f

@@ -1,17 +1,18 @@
 -- Points are pairs of states, and what the laws of trees say of functions of states.
 use Rattle.std.proofs.Common.{◌≡◌, ℕ, suc, ◌-◌, ◌*◌, ◌<◌, ◌≤◌, List, [], ◌∷◌, refl, sym, ◌∙◌, ap, subst, arith, All}
-use Rattle.spd_nodes.specs.Levels.{levels_of, slots, InRange, AllPositive, IsPast}
+use Rattle.spd_model.specs.States.{IsState}
+use Rattle.spd_nodes.specs.Levels.{levels_of, slots, AllPositive, IsPast}
 use Rattle.spd_nodes.specs.Trees.{Tree, IsReduced, IsFrom, IsAt, value_at}
-use Rattle.spd_nodes.specs.States.{Function, IsState, point, plain_part, primed_part, test_tree, function_of, Agree, AgreePast}
+use Rattle.spd_nodes.specs.States.{Function, point, plain_part, primed_part, test_tree, function_of, Agree, AgreePast}
 use Rattle.spd_nodes.proofs.TreeLaws.{tree_of-value_at, tree_of-agree, one_part}
 use Rattle.spd_nodes.proofs.ValueLaws.{value_at-tree_of}
 
-pub InRange-point : (sizes s t : List ℕ) → IsState sizes s → IsState sizes t → InRange (slots sizes) (point s t)
-InRange-point [] [] t p q = tt
-InRange-point [] (x ∷ s) t p q = absurd p
-InRange-point (d ∷ ds) [] t p q = absurd p
-InRange-point (d ∷ ds) (x ∷ s) [] p q = absurd q
-InRange-point (d ∷ ds) (x ∷ s) (y ∷ t) p q = (q.0, (p.0, InRange-point ds s t p.1 q.1))
+pub IsState-point : (sizes s t : List ℕ) → IsState sizes s → IsState sizes t → IsState (slots sizes) (point s t)
+IsState-point [] [] t p q = tt
+IsState-point [] (x ∷ s) t p q = absurd p
+IsState-point (d ∷ ds) [] t p q = absurd p
+IsState-point (d ∷ ds) (x ∷ s) [] p q = absurd q
+IsState-point (d ∷ ds) (x ∷ s) (y ∷ t) p q = (q.0, (p.0, IsState-point ds s t p.1 q.1))
 
 pub plain_part-point : (sizes s t : List ℕ) → IsState sizes s → IsState sizes t → plain_part (point s t) ≡ s
 plain_part-point [] [] t p q = refl
@@ -34,7 +35,7 @@ pub record IsPointOf (sizes p : List ℕ) : Type 0 where
   pub primed : IsState sizes (primed_part p)
   pub point_is : point (plain_part p) (primed_part p) ≡ p
 
-pub point-parts : (sizes p : List ℕ) → InRange (slots sizes) p → IsPointOf sizes p
+pub point-parts : (sizes p : List ℕ) → IsState (slots sizes) p → IsPointOf sizes p
 point-parts [] [] h = record { plain = tt; primed = tt; point_is = refl }
 point-parts [] (x ∷ p) h = absurd h
 point-parts (d ∷ ds) [] h = absurd h
@@ -65,7 +66,7 @@ module _ (sizes : List ℕ) (ok : AllPositive (slots sizes)) where
   pub function_of-test_tree : (f : Function) → Agree sizes (function_of sizes (test_tree sizes f)) f
   function_of-test_tree f = record {
     at = λ s t i j.
-        value_at-tree_of (slots sizes) 0 (λ p. f (plain_part p) (primed_part p)) (point s t) (InRange-point sizes s t i j)
+        value_at-tree_of (slots sizes) 0 (λ p. f (plain_part p) (primed_part p)) (point s t) (IsState-point sizes s t i j)
         ∙ ap (λ v. f v (primed_part (point s t))) (plain_part-point sizes s t i j)
         ∙ ap (λ v. f s v) (primed_part-point sizes s t i j);
   }

@@ -14,8 +14,8 @@ use Rattle.spd_nodes.specs.Keys.{IsPlace, IsAbsent, PlacesKey}
 use Rattle.spd_nodes.specs.Levels.{levels_of, after, slots}
 use Rattle.spd_nodes.specs.Trees.{Tree, Ends, IsReduced, IsNodeOf, Itself, join, CanTest}
 use Rattle.spd_nodes.specs.Shown.{IsSound, Grows, MakesOnly, KnowsAs, LacksOne, IsViewOf}
-use Rattle.spd_nodes.specs.Store.{tree_in, tree_by, trees_from, trees_of, Held, shown, IsBelow, IsStore, KeyFits, LeavesNoRoom, FindsOrAdds, key_view}
-use Rattle.spd_nodes.proofs.ShownLaws.{grows-none, makes-none}
+use Rattle.spd_nodes.specs.Store.{tree_in, tree_by, trees_from, trees_of, Held, shown, ChildrenBefore, IsStore, KeyFits, LeavesNoRoom, FindsOrAdds, key_view}
+use Rattle.spd_nodes.proofs.ShownLaws.{makes_tree-known, makes_tree-fault}
 use Rattle.spd_nodes.proofs.TreeLaws.{join-same, join-differ}
 
 length-trees_from : (ts : List Tree) (ks : List Key) → length (trees_from ts ks) ≡ length ts + length ks
@@ -33,20 +33,20 @@ tree_in-trees_from ts (k ∷ ks) i h =
     ∙ get_or-append ts (tree_by ts k ∷ []) (Ends (L.Act 0)) i h
 
 -- a key over trees that agree below it
-tree_by-agree : (ts us : List Tree) (n : ℕ) (k : Key) → IsBelow n k → ((i : ℕ) → i < n → tree_in ts i ≡ tree_in us i) → tree_by ts k ≡ tree_by us k
+tree_by-agree : (ts us : List Tree) (n : ℕ) (k : Key) → ChildrenBefore n k → ((i : ℕ) → i < n → tree_in ts i ≡ tree_in us i) → tree_by ts k ≡ tree_by us k
 tree_by-agree ts us n (K.Test l y m) b h = let p : tree_in ts y.0 ≡ tree_in us y.0 = h y.0 b.0 in let q : tree_in ts m.0 ≡ tree_in us m.0 = h m.0 b.1 in cc
 tree_by-agree ts us n (K.Num a) b h = refl
 tree_by-agree ts us n (K.Pair a x) b h = refl
 tree_by-agree ts us n (K.Act a) b h = refl
 
 -- each tree is that of its key over all trees
-tree_in-key : (ts : List Tree) (ks : List Key) (i : ℕ) → i < length ks → ((j : ℕ) → j < length ks → IsBelow (length ts + j) (get_or ks j (K.Act 0)))
+tree_in-key : (ts : List Tree) (ks : List Key) (i : ℕ) → i < length ks → ((j : ℕ) → j < length ks → ChildrenBefore (length ts + j) (get_or ks j (K.Act 0)))
     → tree_in (trees_from ts ks) (length ts + i) ≡ tree_by (trees_from ts ks) (get_or ks i (K.Act 0))
 tree_in-key ts [] i h b = absurd (omega arith)
 tree_in-key ts (k ∷ ks) zero h b =
     let e : length ts + 0 ≡ length ts = omega arith in
     let l : length (ts ++ tree_by ts k ∷ []) ≡ length ts + 1 = length-append ts (tree_by ts k ∷ []) in
-    let n : IsBelow (length ts) k = subst (λ v. IsBelow v k) e (b 0 (omega arith)) in
+    let n : ChildrenBefore (length ts) k = subst (λ v. ChildrenBefore v k) e (b 0 (omega arith)) in
     rw e (tree_in-trees_from (ts ++ tree_by ts k ∷ []) ks (length ts) (omega arith)
     ∙ get_or-append_seam ts (tree_by ts k) [] (Ends (L.Act 0))
     ∙ tree_by-agree ts (trees_from (ts ++ tree_by ts k ∷ []) ks) (length ts) k n
@@ -56,16 +56,16 @@ tree_in-key ts (k ∷ ks) (suc i) h b =
     let e : length (ts ++ tree_by ts k ∷ []) + i ≡ length ts + suc i = omega arith in
     subst (λ n. tree_in (trees_from (ts ++ tree_by ts k ∷ []) ks) n ≡ tree_by (trees_from (ts ++ tree_by ts k ∷ []) ks) (get_or ks i (K.Act 0))) e
     (tree_in-key (ts ++ tree_by ts k ∷ []) ks i (omega arith)
-    (λ j q. let f : length ts + suc j ≡ length (ts ++ tree_by ts k ∷ []) + j = omega arith in subst (λ n. IsBelow n (get_or ks j (K.Act 0))) f (b (suc j) (omega arith))))
+    (λ j q. let f : length ts + suc j ≡ length (ts ++ tree_by ts k ∷ []) + j = omega arith in subst (λ n. ChildrenBefore n (get_or ks j (K.Act 0))) f (b (suc j) (omega arith))))
 
 length-trees_of : (ks : List Key) → length (trees_of ks) ≡ length ks
 length-trees_of ks = length-trees_from [] ks ∙ omega arith
 
-IsBelow-more : (m n : ℕ) (k : Key) → m ≤ n → IsBelow m k → IsBelow n k
-IsBelow-more m n (K.Test l y q) h b = (omega arith, omega arith)
-IsBelow-more m n (K.Num a) h b = tt
-IsBelow-more m n (K.Pair a x) h b = tt
-IsBelow-more m n (K.Act a) h b = tt
+ChildrenBefore-more : (m n : ℕ) (k : Key) → m ≤ n → ChildrenBefore m k → ChildrenBefore n k
+ChildrenBefore-more m n (K.Test l y q) h b = (omega arith, omega arith)
+ChildrenBefore-more m n (K.Num a) h b = tt
+ChildrenBefore-more m n (K.Pair a x) h b = tt
+ChildrenBefore-more m n (K.Act a) h b = tt
 
 pub is_sound-shown : (h : Held) → IsStore h → IsSound (shown h)
 is_sound-shown h s = record {
@@ -82,10 +82,10 @@ module _ (h : Held) (s : IsStore h) where
   pub at-key : (i : ℕ) → i < length h.keys → at i ≡ tree_by (trees_of h.keys) (get_or h.keys i (K.Act 0))
   at-key i q = let e : 0 + i ≡ i = omega arith in
       subst (λ n. tree_in (trees_of h.keys) n ≡ tree_by (trees_of h.keys) (get_or h.keys i (K.Act 0))) e
-      (tree_in-key [] h.keys i q (λ j u. let f : j ≡ 0 + j = omega arith in subst (λ n. IsBelow n (get_or h.keys j (K.Act 0))) f (s.below j u)))
+      (tree_in-key [] h.keys i q (λ j u. let f : j ≡ 0 + j = omega arith in subst (λ n. ChildrenBefore n (get_or h.keys j (K.Act 0))) f (s.below j u)))
 
   -- two keys with one tree are one
-  one_key : (j k : Key) → IsBelow (length h.keys) j → IsBelow (length h.keys) k → tree_by (trees_of h.keys) j ≡ tree_by (trees_of h.keys) k → j ≡ k
+  one_key : (j k : Key) → ChildrenBefore (length h.keys) j → ChildrenBefore (length h.keys) k → tree_by (trees_of h.keys) j ≡ tree_by (trees_of h.keys) k → j ≡ k
   one_key (K.Num a) (K.Num b) p q e = let f : a ≡ b = cc in ap K.Num f
   one_key (K.Num a) (K.Pair b y) p q e = absurd (cc e)
   one_key (K.Num a) (K.Act b) p q e = absurd (cc e)
@@ -112,7 +112,7 @@ module _ (h : Held) (s : IsStore h) where
   module _ (key : Key) (fits : KeyFits h key) (absent : IsAbsent h.keys key) where
     -- no tree that is known is the key's
     pub fresh : (i : ℕ) → i < length h.keys → at i ≢ tree_by (trees_of h.keys) key
-    fresh i q e = absent i q (one_key (get_or h.keys i (K.Act 0)) key (IsBelow-more i (length h.keys) _ (omega arith) (s.below i q)) fits.below (sym (at-key i q) ∙ e))
+    fresh i q e = absent i q (one_key (get_or h.keys i (K.Act 0)) key (ChildrenBefore-more i (length h.keys) _ (omega arith) (s.below i q)) fits.below (sym (at-key i q) ∙ e))
 
     added : trees_of (h.keys ++ key ∷ []) ≡ trees_of h.keys ++ tree_by (trees_of h.keys) key ∷ []
     added = trees_from-append [] h.keys key
@@ -143,7 +143,7 @@ module _ (h : Held) (s : IsStore h) where
     is_store-add room = record {
       fits = omega (arith, more);
       layout = s.layout;
-      below = at_cases (λ i. IsBelow i (get_or (h.keys ++ key ∷ []) i (K.Act 0)))
+      below = at_cases (λ i. ChildrenBefore i (get_or (h.keys ++ key ∷ []) i (K.Act 0)))
           (λ i q. rw (get_or-append h.keys (key ∷ []) (K.Act 0) i q) (s.below i q))
           (rw (get_or-append_seam h.keys key [] (K.Act 0)) fits.below);
       reduced = at_cases (λ i. IsReduced (slots h.sizes) 0 (tree_in (trees_of (h.keys ++ key ∷ [])) i))
@@ -200,25 +200,17 @@ full≢memory h key room (Err e) m = (λ f. let g : F.Full ≡ F.Memory = cc in 
 pub finds : (h : Held) → IsStore h → (key : Key) → KeyFits h key → h.limit ≤ length h.keys → (place : Option ℕ) → MatchOption place (IsAbsent h.keys key) (IsPlace h.keys key)
     → (result : Result Entry StoreFault) → MatchOption place (result ≡ Err F.Full) (λ i. (r : Entry) × (r.0 ≡ i) × (result ≡ Ok r)) → FindsOrAdds h h key result
 finds h s key fits full None a result e = rw e (record {
-  sound = is_sound-shown h s;
-  grows = grows-none (shown h);
+  made = makes_tree-fault (shown h) (is_sound-shown h s) F.Full (tree_by (trees_of h.keys) key) (lacks-key h s key fits a full);
   limit = refl;
   err = refl;
   absent = a;
-  ok = tt;
-  makes = makes-none (shown h) (tree_by (trees_of h.keys) key ∷ []);
-  fault = lacks-key h s key fits a full;
   full = (λ _. record { full = full; absent = a }, λ _. refl);
 })
 finds h s key fits full (Some i) p result e = rw e.2 (record {
-  sound = is_sound-shown h s;
-  grows = grows-none (shown h);
+  made = makes_tree-known (shown h) (is_sound-shown h s) e.0 (tree_by (trees_of h.keys) key) (knows-found h s key e.0 (rw e.1 p.within) (rw e.1 p.is));
   limit = refl;
   err = tt;
   absent = tt;
-  ok = knows-found h s key e.0 (rw e.1 p.within) (rw e.1 p.is);
-  makes = makes-none (shown h) (tree_by (trees_of h.keys) key ∷ []);
-  fault = tt;
   full = (λ f. absurd (cc f), λ l. absurd (l.absent i p.within p.is));
 })
 
@@ -229,14 +221,10 @@ adds h s key fits room keys r (inl p) =
     subst (λ (v : List Key). IsStore (record h { keys = v }) × FindsOrAdds h (record h { keys = v }) key (Ok r)) (sym p.0) (
       s,
       record {
-        sound = is_sound-shown h s;
-        grows = grows-none (shown h);
+        made = makes_tree-known (shown h) (is_sound-shown h s) r (tree_by (trees_of h.keys) key) (knows-found h s key r p.1.within p.1.is);
         limit = refl;
         err = tt;
         absent = tt;
-        ok = knows-found h s key r p.1.within p.1.is;
-        makes = makes-none (shown h) (tree_by (trees_of h.keys) key ∷ []);
-        fault = tt;
         full = full≢memory h key room (Ok r) tt;
       },
     )
@@ -244,14 +232,16 @@ adds h s key fits room keys r (inr p) =
     subst (λ (v : List Key). IsStore (record h { keys = v }) × FindsOrAdds h (record h { keys = v }) key (Ok r)) (sym p.0) (
       is_store-add h s key fits p.1 room,
       record {
-        sound = is_sound-shown (record h { keys = h.keys ++ key ∷ [] }) (is_store-add h s key fits p.1 room);
-        grows = grows-add h s key fits p.1;
+        made = record {
+          sound = is_sound-shown (record h { keys = h.keys ++ key ∷ [] }) (is_store-add h s key fits p.1 room);
+          grows = grows-add h s key fits p.1;
+          ok = knows-add h s key fits p.1 r p.2;
+          makes = makes-add h s key fits p.1;
+          fault = tt;
+        };
         limit = refl;
         err = tt;
         absent = tt;
-        ok = knows-add h s key fits p.1 r p.2;
-        makes = makes-add h s key fits p.1;
-        fault = tt;
         full = full≢memory h key room (Ok r) tt;
       },
     )
@@ -259,18 +249,14 @@ adds h s key fits room keys r (inr p) =
 -- there was no memory for a key
 pub adds-none : (h : Held) → IsStore h → (key : Key) → length h.keys < h.limit → IsAbsent h.keys key → FindsOrAdds h h key (Err F.Memory)
 adds-none h s key room absent = record {
-  sound = is_sound-shown h s;
-  grows = grows-none (shown h);
+  made = makes_tree-fault (shown h) (is_sound-shown h s) F.Memory (tree_by (trees_of h.keys) key) tt;
   limit = refl;
   err = refl;
   absent = absent;
-  ok = tt;
-  makes = makes-none (shown h) (tree_by (trees_of h.keys) key ∷ []);
-  fault = tt;
   full = full≢memory h key room (Err F.Memory) refl;
 }
 
-view-key : (h : Held) (r : Entry) (k : Key) (n : ℕ) → n ≤ length h.keys → IsBelow n k → tree_in (trees_of h.keys) r.0 ≡ tree_by (trees_of h.keys) k → IsViewOf (shown h) r (key_view k)
+view-key : (h : Held) (r : Entry) (k : Key) (n : ℕ) → n ≤ length h.keys → ChildrenBefore n k → tree_in (trees_of h.keys) r.0 ≡ tree_by (trees_of h.keys) k → IsViewOf (shown h) r (key_view k)
 view-key h r (K.Num a) n q b e = e
 view-key h r (K.Pair a x) n q b e = e
 view-key h r (K.Act a) n q b e = e

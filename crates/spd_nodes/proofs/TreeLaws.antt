@@ -2,23 +2,17 @@
 use Rattle.std.proofs.Common.{◌≡◌, ℕ, zero, suc, ◌+◌, ◌-◌, ◌<◌, ◌≤◌, ◌≢◌, ◌⊎◌, inl, inr, ◌==◌, ◌&&◌, Bool, true, false, cond, List, [], ◌∷◌, refl, sym, ◌∙◌, ap, subst, arith}
 use Rattle.std.specs.Prelude.{nat_lt}
 use Rattle.std.specs.Ordering.{int_eq}
+use Rattle.std.proofs.lemmas.Bool.{and_parts, and_from, ne_eqb}
 use Rattle.std.proofs.lemmas.Bool.Decides.{Decides-int_eq, Decides-eqb, nat_tests}
 use Rattle.spd_nodes.specs.declared.leaf.Leaf.{Leaf}
 use Rattle.spd_nodes.specs.declared.leaf.Leaf.TheVariants.{Num, Pair, Act}
-use Rattle.spd_nodes.specs.Levels.{levels_of, passes, after, is_first, InRange, AllPositive, IsPast}
+use Rattle.spd_model.specs.States.{IsState}
+use Rattle.spd_nodes.specs.Levels.{levels_of, passes, after, is_first, AllPositive, IsPast}
 use Rattle.spd_nodes.specs.Trees.{Tree, Ends, Tests, leaf_eq, tree_eq, value_at, IsFrom, IsAt, IsReduced, join, chain, tree_of}
-
-pub both : (a b : Bool) → (a && b) ≡ true → (a ≡ true) × (b ≡ true)
-both true true e = (refl, refl)
-both true false e = absurd (cc e)
-both false b e = absurd (cc e)
-
-pub both_true : (a b : Bool) → a ≡ true → b ≡ true → (a && b) ≡ true
-both_true a b e h = rw (e, h) refl
 
 pub leaf_eq-refl : (a : Leaf) → leaf_eq a a ≡ true
 leaf_eq-refl (Num a) = (Decides-int_eq a a).1 refl
-leaf_eq-refl (Pair a x) = both_true _ _ ((Decides-int_eq a a).1 refl) ((Decides-int_eq x x).1 refl)
+leaf_eq-refl (Pair a x) = and_from _ _ ((Decides-int_eq a a).1 refl) ((Decides-int_eq x x).1 refl)
 leaf_eq-refl (Act a) = (Decides-eqb a a).1 refl
 
 pub leaf_eq-true : (a b : Leaf) → leaf_eq a b ≡ true → a ≡ b
@@ -27,7 +21,7 @@ leaf_eq-true (Num a) (Pair b y) e = absurd (cc e)
 leaf_eq-true (Num a) (Act b) e = absurd (cc e)
 leaf_eq-true (Pair a x) (Num b) e = absurd (cc e)
 leaf_eq-true (Pair a x) (Pair b y) e =
-    let s : (int_eq a b ≡ true) × (int_eq x y ≡ true) = both _ _ e in
+    let s : (int_eq a b ≡ true) × (int_eq x y ≡ true) = and_parts _ _ e in
     let p : a ≡ b = (Decides-int_eq a b).0 s.0 in
     let q : x ≡ y = (Decides-int_eq x y).0 s.1 in
     cc
@@ -38,15 +32,15 @@ leaf_eq-true (Act a) (Act b) e = ap Act ((Decides-eqb a b).0 e)
 
 pub tree_eq-refl : (t : Tree) → tree_eq t t ≡ true
 tree_eq-refl (Ends a) = leaf_eq-refl a
-tree_eq-refl (Tests l y n) = both_true _ _ ((Decides-eqb l l).1 refl) (both_true _ _ (tree_eq-refl y) (tree_eq-refl n))
+tree_eq-refl (Tests l y n) = and_from _ _ ((Decides-eqb l l).1 refl) (and_from _ _ (tree_eq-refl y) (tree_eq-refl n))
 
 pub tree_eq-true : (t u : Tree) → tree_eq t u ≡ true → t ≡ u
 tree_eq-true (Ends a) (Ends b) e = ap Ends (leaf_eq-true a b e)
 tree_eq-true (Ends a) (Tests l y n) e = absurd (cc e)
 tree_eq-true (Tests k y n) (Ends b) e = absurd (cc e)
 tree_eq-true (Tests k y n) (Tests l v m) e =
-    let s : (k == l ≡ true) × ((tree_eq y v && tree_eq n m) ≡ true) = both (k == l) _ e in
-    let r : (tree_eq y v ≡ true) × (tree_eq n m ≡ true) = both _ _ s.1 in
+    let s : (k == l ≡ true) × ((tree_eq y v && tree_eq n m) ≡ true) = and_parts (k == l) _ e in
+    let r : (tree_eq y v ≡ true) × (tree_eq n m ≡ true) = and_parts _ _ s.1 in
     let a : k ≡ l = (Decides-eqb k l).0 s.0 in
     let b : y ≡ v = tree_eq-true y v r.0 in
     let c : n ≡ m = tree_eq-true n m r.1 in
@@ -81,7 +75,7 @@ is_first-skip d ds b l h = rw (skip d b l h, shift d b l) refl
 after-skip : (d : ℕ) (ds : List ℕ) (b l : ℕ) → b + (d - 1) ≤ l → b + after (d ∷ ds) (l - b) ≡ (b + (d - 1)) + after ds (l - (b + (d - 1)))
 after-skip d ds b l h = rw (skip d b l h, shift d b l) (omega arith)
 
-passes-skip : (d : ℕ) (ds : List ℕ) (b l x : ℕ) (p : List ℕ) → b + (d - 1) ≤ l → passes (d ∷ ds) (l - b) (x ∷ p) ≡ passes ds (l - (b + (d - 1))) p
+pub passes-skip : (d : ℕ) (ds : List ℕ) (b l x : ℕ) (p : List ℕ) → b + (d - 1) ≤ l → passes (d ∷ ds) (l - b) (x ∷ p) ≡ passes ds (l - (b + (d - 1))) p
 passes-skip d ds b l x p h = rw (skip d b l h, shift d b l) refl
 
 pub after_above : (ds : List ℕ) (l : ℕ) → l < levels_of ds → l < after ds l
@@ -150,9 +144,6 @@ passes-within d ds b l x p g h = rw (within d b l g h) refl
 eq-true : (x y : ℕ) → x ≡ y → (x == y) ≡ true
 eq-true x y e = (Decides-eqb x y).1 e
 
-eq-false : (x y : ℕ) → x ≢ y → (x == y) ≡ false
-eq-false x y h = grind (arith, nat_tests)
-
 -- what is asked of the slots after the first one
 abbrev Rebuilds : List ℕ → ℕ → Type 0
 Rebuilds ds b = (t : Tree) → IsReduced ds b t → IsFrom ds b b t → tree_of ds b (value_at ds b t) ≡ t
@@ -187,7 +178,7 @@ module _ (d : ℕ) (ds : List ℕ) (b : ℕ) (rest : Rebuilds ds (b + (d - 1))) 
       let at_yes : (p : List ℕ) → value_at (d ∷ ds) b (Tests k y m) (j ∷ p) ≡ value_at (d ∷ ds) b y (j ∷ p) =
       λ p. rw (passes-within d ds b k j p lo hi, eq-true j (k - b) (omega arith)) refl in
       let at_no : (q : ℕ) → j + 1 ≤ q → (p : List ℕ) → value_at (d ∷ ds) b (Tests k y m) (q ∷ p) ≡ value_at (d ∷ ds) b m (q ∷ p) =
-      λ q o p. rw (passes-within d ds b k q p lo hi, eq-false q (k - b) (omega arith)) refl in
+      λ q o p. rw (passes-within d ds b k q p lo hi, ne_eqb q (k - b) (omega arith)) refl in
       let sy : sub j ≡ y = h j (omega arith) ∙ ap (tree_of ds (b + (d - 1))) (λ i p. at_yes p i) ∙ tree_of-above j y r.5 fy in
       let sm : chain n (j + 1) (l + 1) sub ≡ m =
       chain-rebuilds n (j + 1) (l + 1) m sub (omega arith) (omega arith) r.6 fm
@@ -219,24 +210,24 @@ chain-agree (suc n) j l u v h =
     ap (λ t. join l t (chain n (j + 1) (l + 1) u)) a ∙ ap (join l (v j)) b
 
 -- functions that agree in range have one tree
-pub tree_of-agree : (ds : List ℕ) (b : ℕ) (f g : List ℕ → Leaf) → AllPositive ds → ((p : List ℕ) → InRange ds p → f p ≡ g p) → tree_of ds b f ≡ tree_of ds b g
+pub tree_of-agree : (ds : List ℕ) (b : ℕ) (f g : List ℕ → Leaf) → AllPositive ds → ((p : List ℕ) → IsState ds p → f p ≡ g p) → tree_of ds b f ≡ tree_of ds b g
 tree_of-agree [] b f g o h = ap Ends (h [] tt)
 tree_of-agree (d ∷ ds) b f g o h =
     chain-agree (d - 1) 0 b _ _ (λ k u v. tree_of-agree ds (b + (d - 1)) (λ p. f (k ∷ p)) (λ p. g (k ∷ p)) o.1 (λ p i. h (k ∷ p) (omega arith, i)))
 
 -- two reduced trees of one first level with equal values in range from that level's value on are equal
 pub one_part : (ds : List ℕ) (b l : ℕ) (t u : Tree) → AllPositive ds → b ≤ l → IsReduced ds b t → IsReduced ds b u → IsAt l t → IsAt l u
-    → ((p : List ℕ) → InRange ds p → IsPast ds (l - b) p → value_at ds b t p ≡ value_at ds b u p) → t ≡ u
+    → ((p : List ℕ) → IsState ds p → IsPast ds (l - b) p → value_at ds b t p ≡ value_at ds b u p) → t ≡ u
 one_part [] b l (Ends a) u o q r s f g h = absurd f
 one_part [] b l (Tests k y n) u o q r s f g h = absurd (omega arith)
 one_part (d ∷ ds) b l t u o q r s f g h = go (nat_lt (l - b) (d - 1)) refl (one_part ds (b + (d - 1)) l t u o.1)
   where
     Same : Type 0
-    Same = (p : List ℕ) → InRange ds p → IsPast ds (l - (b + (d - 1))) p → value_at ds (b + (d - 1)) t p ≡ value_at ds (b + (d - 1)) u p
+    Same = (p : List ℕ) → IsState ds p → IsPast ds (l - (b + (d - 1))) p → value_at ds (b + (d - 1)) t p ≡ value_at ds (b + (d - 1)) u p
 
     go : (z : Bool) → nat_lt (l - b) (d - 1) ≡ z
         → (b + (d - 1) ≤ l → IsReduced ds (b + (d - 1)) t → IsReduced ds (b + (d - 1)) u → IsAt l t → IsAt l u
-        → ((p : List ℕ) → InRange ds p → IsPast ds (l - (b + (d - 1))) p → value_at ds (b + (d - 1)) t p ≡ value_at ds (b + (d - 1)) u p) → t ≡ u) → t ≡ u
+        → ((p : List ℕ) → IsState ds p → IsPast ds (l - (b + (d - 1))) p → value_at ds (b + (d - 1)) t p ≡ value_at ds (b + (d - 1)) u p) → t ≡ u) → t ≡ u
     go true z ih =
         let lo : l < b + (d - 1) = grind (arith, nat_tests) in
         let n : ((d - 1) - (l - b)) + (l - b) ≡ d - 1 = omega arith in

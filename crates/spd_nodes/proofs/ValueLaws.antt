@@ -3,9 +3,10 @@ use Rattle.std.proofs.Common.{◌≡◌, ℕ, zero, suc, ◌+◌, ◌-◌, ◌�
 use Rattle.std.specs.Prelude.{nat_lt}
 use Rattle.std.proofs.lemmas.Bool.Decides.{Decides-eqb, nat_tests}
 use Rattle.spd_nodes.specs.declared.leaf.Leaf.{Leaf}
-use Rattle.spd_nodes.specs.Levels.{passes, InRange}
+use Rattle.spd_model.specs.States.{IsState}
+use Rattle.spd_nodes.specs.Levels.{passes}
 use Rattle.spd_nodes.specs.Trees.{Tree, Ends, Tests, tree_eq, value_at, join, chain, tree_of}
-use Rattle.spd_nodes.proofs.TreeLaws.{tree_eq-true}
+use Rattle.spd_nodes.proofs.TreeLaws.{tree_eq-true, passes-skip}
 
 -- no level is below `e`, anywhere
 abbrev AllAbove : ℕ → Tree → Type 0
@@ -33,15 +34,9 @@ AllAbove-tree_of (d ∷ ds) b f =
     AllAbove-chain b (d - 1) 0 b (λ j. tree_of ds (b + (d - 1)) (λ p. f (j ∷ p))) (omega arith)
     (λ k. AllAbove-lower b (b + (d - 1)) _ (omega arith) (AllAbove-tree_of ds (b + (d - 1)) (λ p. f (k ∷ p))))
 
-passes-past : (d : ℕ) (ds : List ℕ) (b l x : ℕ) (p : List ℕ) → b + (d - 1) ≤ l → passes (d ∷ ds) (l - b) (x ∷ p) ≡ passes ds (l - (b + (d - 1))) p
-passes-past d ds b l x p h =
-    let e : nat_lt (l - b) (d - 1) ≡ false = grind (arith, nat_tests) in
-    let i : (l - b) - (d - 1) ≡ l - (b + (d - 1)) = omega arith in
-    rw (e, i) refl
-
 value_at-past : (d : ℕ) (ds : List ℕ) (b x : ℕ) (p : List ℕ) (t : Tree) → AllAbove (b + (d - 1)) t → value_at (d ∷ ds) b t (x ∷ p) ≡ value_at ds (b + (d - 1)) t p
 value_at-past d ds b x p (Ends a) h = refl
-value_at-past d ds b x p (Tests l y n) h = rw (passes-past d ds b l x p h.0, value_at-past d ds b x p y h.1, value_at-past d ds b x p n h.2) refl
+value_at-past d ds b x p (Tests l y n) h = rw (passes-skip d ds b l x p h.0, value_at-past d ds b x p y h.1, value_at-past d ds b x p n h.2) refl
 
 pub value_at-join : (ds : List ℕ) (b l : ℕ) (y n : Tree) (p : List ℕ) → value_at ds b (join l y n) p ≡ cond (passes ds (l - b) p) (value_at ds b y p) (value_at ds b n p)
 value_at-join ds b l y n p = go (tree_eq y n) refl
@@ -71,7 +66,7 @@ value_at-chain d ds b (suc n) j l x p sub e f g h = value_at-join (d ∷ ds) b l
     go false z r = let i : j + 1 ≤ x = grind (arith, nat_tests) in rw (within, at, z) (r i)
 
 -- the tree of a function has its value at each point in range
-pub value_at-tree_of : (ds : List ℕ) (b : ℕ) (f : List ℕ → Leaf) (p : List ℕ) → InRange ds p → value_at ds b (tree_of ds b f) p ≡ f p
+pub value_at-tree_of : (ds : List ℕ) (b : ℕ) (f : List ℕ → Leaf) (p : List ℕ) → IsState ds p → value_at ds b (tree_of ds b f) p ≡ f p
 value_at-tree_of [] b f [] i = refl
 value_at-tree_of [] b f (x ∷ p) i = absurd i
 value_at-tree_of (d ∷ ds) b f [] i = absurd i

@@ -1,7 +1,8 @@
 -- Slots, levels and points.
 --
 -- A slot is a variable that takes one of d values, 0 to d - 1. It has d - 1 tests, "is it value j?", for j from 0 to d - 2.
--- Levels number the tests from 0, slot after slot and value after value. A point gives each slot a value.
+-- Levels number the tests from 0, slot after slot and value after value. A point gives each slot a value: it is a state of
+-- the slots.
 use Rattle.std.specs.Prelude.{ℕ, ◌+◌, ◌-◌, ◌*◌, ◌<◌, ◌≤◌, ◌==◌, Bool, true, false, cond, nat_lt, List, [], ◌∷◌, take, length, slice_index, ◌≡◌}
 
 -- the number of levels of some slots
@@ -30,13 +31,6 @@ abbrev pub AllPositive : List ℕ → Type 0
 AllPositive [] = Unit {0}
 AllPositive (d ∷ ds) = (0 < d) × AllPositive ds
 
--- a point has one value for each slot, below the slot's size
-abbrev pub InRange : List ℕ → List ℕ → Type 0
-InRange [] [] = Unit {0}
-InRange [] (x ∷ p) = ⊥
-InRange (d ∷ ds) [] = ⊥
-InRange (d ∷ ds) (x ∷ p) = (x < d) × InRange ds p
-
 -- a point whose value in a level's slot is at least the level's value
 abbrev pub IsPast : List ℕ → ℕ → List ℕ → Type 0
 IsPast [] l p = Unit {0}
@@ -61,3 +55,9 @@ pub record IsTestOf (sizes : List ℕ) (level var : ℕ) (primed : Bool) (value 
   pub var_in : var < length sizes
   pub value_in : value + 1 < slice_index sizes var
   pub level_is : level_at sizes var primed value ≡ level
+
+-- a slot's tests are the levels from `first` to below `end`
+pub record IsSlot (ds : List ℕ) (slot first end : ℕ) : Type 0 where
+  pub slot_in : slot < length ds
+  pub first_is : first ≡ levels_of (take slot ds)
+  pub end_is : end ≡ first + (slice_index ds slot - 1)

@@ -6,3 +6,5 @@ pub mod Shown
 pub mod Store
 pub mod States
 pub mod Trees
+pub mod KnownTrees
+pub mod Grove

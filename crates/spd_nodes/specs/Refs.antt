@@ -3,7 +3,7 @@ use Rattle.std.specs.Prelude.{◌≡◌, ℕ, ◌<◌, ◌==◌, ◌⊎◌, Bool
 use Rattle.std.specs.List.{IsDistinct}
 use Rattle.std.specs.Set.{distinct_count}
 use Rattle.spd_cons_core.specs.declared.key.Entry.{Entry}
-use Rattle.spd_nodes.specs.Trees.{Tree, Ends, Tests, IsNode, nodes_of, tree_eq}
+use Rattle.spd_nodes.specs.Trees.{Tree, Ends, Tests, IsNode, subtrees_of, tree_eq}
 use Rattle.spd_nodes.specs.Shown.{Shown}
 
 -- whether two entries are the same
@@ -53,4 +53,4 @@ pub record IsReached (s : Shown) (r : Entry) (refs : List Entry) : Type 0 where
 
 -- the number of distinct nodes of a tree, leaves included
 abbrev pub node_count : Tree → ℕ
-node_count t = distinct_count tree_eq (nodes_of t)
+node_count t = distinct_count tree_eq (subtrees_of t)

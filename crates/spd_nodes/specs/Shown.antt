@@ -1,5 +1,5 @@
 -- What a forest shows to contracts.
-use Rattle.std.specs.Prelude.{◌≡◌, ℕ, ◌≢◌, ◌⊎◌, ◌==◌, Bool, true, cond, List}
+use Rattle.std.specs.Prelude.{◌≡◌, ℕ, ◌≢◌, ◌⊎◌, ◌==◌, Bool, true, cond, List, [], ◌∷◌, Result, IfOk, IfErr}
 use Rattle.spd_cons_core.specs.declared.key.Entry.{Entry}
 use Rattle.spd_nodes.specs.declared.forest.View.{View}
 use Rattle.spd_nodes.specs.declared.forest.View.TheVariants as V
@@ -77,6 +77,29 @@ MakesNodesOf s t fs = MakesOnly s t (test_trees s.sizes fs)
 -- What a fault says of the functions whose nodes a call makes.
 abbrev pub FaultsAt : StoreFault → Shown → List Function → Type 0
 FaultsAt e s fs = Faults e s (test_trees s.sizes fs)
+
+-- A call that makes a tree. Whatever it answers, the forest is sound afterwards, shows all that it showed, and published
+-- nodes of this tree alone. Ok names the tree's entry, and Full comes only where the forest is full and lacks one of its nodes.
+pub record MakesTree (old new : Shown) (t : Tree) (result : Result Entry StoreFault) : Type 0 where
+  pub sound : IsSound new
+  pub grows : Grows old new
+  pub ok : IfOk result (λ r. KnowsAs new r t)
+  pub makes : MakesOnly old new (t ∷ [])
+  pub fault : IfErr result (λ e. Faults e new (t ∷ []))
+
+-- A call that makes the diagram of a function, and on its way the nodes of some functions. Whatever it answers, the forest is
+-- sound afterwards, shows all that it showed, and published nodes of those functions alone. Ok names an entry that stands for
+-- the function, and Full comes only where the forest is full and lacks one of those nodes.
+pub record MakesAmong (old new : Shown) (f : Function) (nodes : List Function) (result : Result Entry StoreFault) : Type 0 where
+  pub sound : IsSound new
+  pub grows : Grows old new
+  pub ok : IfOk result (λ r. StandsFor new r f)
+  pub makes : MakesNodesOf old new nodes
+  pub fault : IfErr result (λ e. FaultsAt e new nodes)
+
+-- the same, on the way only nodes of the diagram itself
+abbrev pub MakesDiagram : Shown → Shown → Function → Result Entry StoreFault → Type 0
+MakesDiagram old new f result = MakesAmong old new f (f ∷ []) result
 
 -- The root of an entry, with its children, which are known.
 abbrev pub IsViewOf : Shown → Entry → View → Type 0

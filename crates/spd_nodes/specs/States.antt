@@ -1,16 +1,13 @@
 -- Functions of a present state `s` and a next state `t`, and their test trees.
 use Rattle.std.specs.Prelude.{◌≡◌, ℕ, List, [], ◌∷◌, map}
+use Rattle.spd_model.specs.States.{IsState}
 use Rattle.spd_nodes.specs.declared.leaf.Leaf.{Leaf}
-use Rattle.spd_nodes.specs.Levels.{InRange, IsPast, slots}
+use Rattle.spd_nodes.specs.Levels.{IsPast, slots}
 use Rattle.spd_nodes.specs.Trees.{Tree, value_at, tree_of}
 
 -- a function of the present and the next state
 abbrev pub Function : Type 0
 Function = List ℕ → List ℕ → Leaf
-
--- a state has one value for each variable, below the variable's number of values
-abbrev pub IsState : List ℕ → List ℕ → Type 0
-IsState sizes s = InRange sizes s
 
 -- the point of a present and a next state: the next value of each variable and then its present one
 abbrev pub point : List ℕ → List ℕ → List ℕ

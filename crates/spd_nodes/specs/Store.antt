@@ -1,5 +1,5 @@
 -- What a list of keys shows: the store for one thread.
-use Rattle.std.specs.Prelude.{◌≡◌, ℕ, ◌<◌, ◌≤◌, nat_lt, nat_le, List, [], ◌∷◌, ◌++◌, length, slice_index_or, Result, Err, IfOk, IfErr, OnErr, ◌↔◌}
+use Rattle.std.specs.Prelude.{◌≡◌, ℕ, ◌<◌, ◌≤◌, nat_lt, nat_le, List, [], ◌∷◌, ◌++◌, length, slice_index_or, Result, Err, OnErr, ◌↔◌}
 use Rattle.spd_cons_core.specs.declared.key.Entry.{Entry}
 use Rattle.spd_cons_core.specs.declared.key.Key.{Key}
 use Rattle.spd_cons_core.specs.declared.key.Key.TheVariants as K
@@ -13,7 +13,7 @@ use Rattle.spd_nodes.specs.Limits.{IsLayout}
 use Rattle.spd_nodes.specs.Trees.{Tree, Ends, Tests, IsReduced}
 use Rattle.spd_nodes.specs.declared.forest.StoreFault.{StoreFault}
 use Rattle.spd_nodes.specs.declared.forest.StoreFault.TheVariants as F
-use Rattle.spd_nodes.specs.Shown.{Shown, IsSound, Grows, MakesOnly, KnowsAs, Faults}
+use Rattle.spd_nodes.specs.Shown.{Shown, MakesTree}
 
 -- the tree at a place
 abbrev pub tree_in : List Tree → ℕ → Tree
@@ -64,11 +64,11 @@ key_view (K.Pair a b) = V.Leaf (L.Pair a b)
 key_view (K.Act a) = V.Leaf (L.Act a)
 
 -- a key's children stand before this place
-abbrev pub IsBelow : ℕ → Key → Type 0
-IsBelow n (K.Test l y m) = (y.0 < n) × (m.0 < n)
-IsBelow n (K.Num a) = Unit {0}
-IsBelow n (K.Pair a b) = Unit {0}
-IsBelow n (K.Act a) = Unit {0}
+abbrev pub ChildrenBefore : ℕ → Key → Type 0
+ChildrenBefore n (K.Test l y m) = (y.0 < n) × (m.0 < n)
+ChildrenBefore n (K.Num a) = Unit {0}
+ChildrenBefore n (K.Pair a b) = Unit {0}
+ChildrenBefore n (K.Act a) = Unit {0}
 
 -- limit entries stand, and the key isn't among them
 pub record LeavesNoRoom (h : Held) (key : Key) : Type 0 where
@@ -79,24 +79,20 @@ pub record LeavesNoRoom (h : Held) (key : Key) : Type 0 where
 pub record IsStore (h : Held) : Type 0 where
   pub fits : length h.keys ≤ h.limit
   pub layout : IsLayout h.sizes
-  pub below : (i : ℕ) → i < length h.keys → IsBelow i (slice_index_or h.keys i (K.Act 0))
+  pub below : (i : ℕ) → i < length h.keys → ChildrenBefore i (slice_index_or h.keys i (K.Act 0))
   pub reduced : (i : ℕ) → i < length h.keys → IsReduced (slots h.sizes) 0 (tree_in (trees_of h.keys) i)
   pub once : (i j : ℕ) → i < length h.keys → j < length h.keys → tree_in (trees_of h.keys) i ≡ tree_in (trees_of h.keys) j → i ≡ j
 
 -- a key that may stand in the store
 pub record KeyFits (h : Held) (key : Key) : Type 0 where
-  pub below : IsBelow (length h.keys) key
+  pub below : ChildrenBefore (length h.keys) key
   pub reduced : IsReduced (slots h.sizes) 0 (tree_by (trees_of h.keys) key)
 
 -- A call that looks for a key's tree and makes it where it isn't known: Full exactly where there is no room for it. It fails
 -- only where the key stands nowhere, and then nothing changes.
 pub record FindsOrAdds (old new : Held) (key : Key) (result : Result Entry StoreFault) : Type 0 where
-  pub sound : IsSound (shown new)
-  pub grows : Grows (shown old) (shown new)
+  pub made : MakesTree (shown old) (shown new) (tree_by (trees_of old.keys) key) result
   pub limit : new.limit ≡ old.limit
   pub err : OnErr result (new ≡ old)
   pub absent : OnErr result (IsAbsent old.keys key)
-  pub ok : IfOk result (λ r. KnowsAs (shown new) r (tree_by (trees_of old.keys) key))
-  pub makes : MakesOnly (shown old) (shown new) (tree_by (trees_of old.keys) key ∷ [])
-  pub fault : IfErr result (λ e. Faults e (shown new) (tree_by (trees_of old.keys) key ∷ []))
   pub full : (result ≡ Err F.Full) ↔ LeavesNoRoom old key

@@ -47,6 +47,10 @@ abbrev pub IsAt : ℕ → Tree → Type 0
 IsAt k (Ends a) = ⊥
 IsAt k (Tests l y n) = l ≡ k
 
+-- its root tests this level, or it is past the level's slot
+abbrev pub IsAtOrPast : List ℕ → ℕ → Tree → Type 0
+IsAtOrPast ds l t = IsFrom ds 0 (after ds l) t ⊎ IsAt l t
+
 -- A tree is reduced where at each test the children differ, the one where it holds is whole and past the slot, and the
 -- other one is that too, or is the slot's next test.
 abbrev pub IsReduced : List ℕ → ℕ → Tree → Type 0
@@ -85,10 +89,10 @@ abbrev pub IsNodeOf : Tree → List Tree → Type 0
 IsNodeOf x [] = ⊥
 IsNodeOf x (t ∷ ts) = IsNode x t ⊎ IsNodeOf x ts
 
--- all nodes of a tree, each as often as it stands there
-abbrev pub nodes_of : Tree → List Tree
-nodes_of (Ends a) = Ends a ∷ []
-nodes_of (Tests l y n) = Tests l y n ∷ (nodes_of y ++ nodes_of n)
+-- all subtrees of a tree, each as often as it stands there
+abbrev pub subtrees_of : Tree → List Tree
+subtrees_of (Ends a) = Ends a ∷ []
+subtrees_of (Tests l y n) = Tests l y n ∷ (subtrees_of y ++ subtrees_of n)
 
 -- how many levels a tree has at most, from its root's level on
 abbrev pub tree_rank : List ℕ → Tree → ℕ

@@ -1,3 +1,5 @@
+//! The forest for one thread.
+
 ghost use Rattle.std.specs.Prelude.{◌≡◌, ℕ, ◌+◌, ◌<◌, ◌≤◌, ◌≢◌, ◌↔◌, [], ◌∷◌, IfOk, IfErr, OnErr, true, length};
 ghost use Rattle.spd_nodes.specs.Keys.{IsAbsent};
 ghost use Rattle.spd_nodes.specs.Levels.{levels_of, slots};
@@ -9,8 +11,7 @@ use crate::forest::{Forest, Ref, StoreFault, View};
 use crate::keys::Keys;
 use crate::layout::{Layout, Level};
 use crate::leaf::Leaf;
-use crate::steps::Steps;
-use spd_cons_core::{Entry, Key};
+use spd_cons_core::{Entry, Key, Steps};
 use std::alloc::{AllocError, Global};
 use std::marker::Model;
 use std::sync::ledger::Ledger;
@@ -66,7 +67,8 @@ impl Alone {
     }
 }
 
-fn key_of(leaf: Leaf) -> Key
+/// The key of a leaf.
+pub(crate) fn key_of(leaf: Leaf) -> Key
     ensures { result ≡ leaf_key leaf }
 {
     match leaf {
@@ -76,7 +78,8 @@ fn key_of(leaf: Leaf) -> Key
     }
 }
 
-fn view_of(key: Key) -> View
+/// What a key is seen as.
+pub(crate) fn view_of(key: Key) -> View
     ensures { result ≡ key_view key }
 {
     match key {

@@ -1,3 +1,5 @@
+//! A forest that counts the calls of another one.
+
 ghost use Rattle.std.specs.Prelude.{◌≡◌, ℕ, ◌+◌, ◌%◌, ◌^◌, ◌<◌, [], ◌∷◌, IfOk, IfErr, true};
 ghost use Rattle.spd_nodes.specs.Levels.{levels_of, slots};
 ghost use Rattle.spd_nodes.specs.Trees.{Ends, join, CanTest};
@@ -7,7 +9,7 @@ ghost use Rattle.spd_nodes.specs.States.{test_tree};
 use crate::forest::{Forest, Ref, StoreFault, View};
 use crate::layout::{Layout, Level};
 use crate::leaf::Leaf;
-use crate::steps::Steps;
+use spd_cons_core::Steps;
 use std::sync::ledger::Ledger;
 
 /// A forest that counts the find-or-make calls of another one while it runs. It shows what that one shows.

@@ -1,3 +1,5 @@
+//! The trait of stores of reduced test trees, each of them once.
+
 ghost use Rattle.std.specs.Prelude.{◌≡◌, ℕ, ◌+◌, ◌<◌, [], ◌∷◌, IfOk, IfErr, true};
 ghost use Rattle.spd_nodes.specs.Levels.{levels_of, slots};
 ghost use Rattle.spd_nodes.specs.Trees.{Ends, join, CanTest};
@@ -6,8 +8,7 @@ ghost use Rattle.spd_nodes.specs.States.{test_tree};
 
 use crate::layout::{Layout, Level};
 use crate::leaf::Leaf;
-use crate::steps::Steps;
-use spd_cons_core::Entry;
+use spd_cons_core::{Entry, Steps};
 use std::sync::ledger::Ledger;
 
 /// The name of a test tree in a forest.

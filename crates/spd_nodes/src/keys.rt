@@ -1,3 +1,5 @@
+//! Keys in order, each with its place.
+
 ghost use Rattle.std.specs.Prelude.{◌≡◌, ℕ, ◌<◌, List, [], length, slice_index_or, IfOk, OnErr, MatchOption};
 ghost use Rattle.spd_nodes.specs.Keys.{IsPlace, IsAbsent, PlacesKey};
 

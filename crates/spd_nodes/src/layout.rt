@@ -1,5 +1,7 @@
-ghost use Rattle.std.specs.Prelude.{◌≡◌, ℕ, ◌+◌, ◌-◌, ◌*◌, ◌<◌, ◌≤◌, length, slice_index, take, IfOk, List, Bool};
-ghost use Rattle.spd_nodes.specs.Levels.{levels_of, slots, level_at, IsTestOf};
+//! Variables, and the numbers of their tests.
+
+ghost use Rattle.std.specs.Prelude.{◌≡◌, ℕ, ◌+◌, ◌-◌, ◌*◌, ◌<◌, ◌≤◌, ◌↔◌, length, slice_index, take, IfOk, IsTrue, List, Bool};
+ghost use Rattle.spd_nodes.specs.Levels.{levels_of, slots, level_at, after, IsTestOf};
 ghost use Rattle.spd_nodes.specs.Limits.{IsLayout};
 
 use std::alloc::{AllocError, Global};
@@ -28,8 +30,25 @@ impl Model for Layout {
 }
 
 impl Layout {
-    /// The layout of variables with these numbers of values: 1 to 100 variables of 1 to 64 values, with at most 256 tests
-    /// of either kind. It fails only for want of memory.
+    /// Whether variables with these numbers of values have a layout: 1 to 100 variables of 1 to 64 values, with at most 256
+    /// tests of either kind.
+    pub fn fits(sizes: &[u8]) -> bool
+        ensures { IsTrue result ↔ IsLayout sizes.now }
+    {
+        if sizes.is_empty() || sizes.len() > 100 {
+            return false;
+        }
+        let mut tests: u16 = 0;
+        for size in sizes {
+            if *size == 0 || *size > 64 {
+                return false;
+            }
+            tests += *size as u16 - 1;
+        }
+        tests <= 256
+    }
+
+    /// The layout of variables with these numbers of values, as `fits` tests them. It fails only for want of memory.
     pub fn new(alloc: Global, sizes: &[u8]) -> Result<Layout, AllocError>
         requires { IsLayout sizes.now }
         ensures { IfOk result (λ l. l ≡ sizes.now) }
@@ -70,6 +89,17 @@ impl Layout {
         let tests = sizes[var as usize] as u16 - 1;
         let first = first_in(sizes, var as usize, primed);
         (first, first + tests)
+    }
+
+    /// The first level after all tests of a level's variable and kind.
+    pub fn end(&self, level: Level) -> u16
+        requires { level.0 < levels_of (slots self.now) }
+        ensures end { result ≡ after (slots self.now) level.0 }
+        ensures within { result ≤ levels_of (slots self.now) }
+    {
+        let (var, primed, _) = self.what(level);
+        let (_, end) = self.tests(var, primed);
+        end
     }
 
     /// Which variable a level tests, whether it is the variable's next value (primed), and which value it asks for.

@@ -1,3 +1,5 @@
+//! The leaves of test trees.
+
 /// What stands at the end of a test tree's path. Leaves are ordered by kind, Num before Pair before Act, and then by their
 /// numbers.
 #[derive(Clone, Copy, Debug, PartialEq, Eq, PartialOrd, Ord, Hash)]

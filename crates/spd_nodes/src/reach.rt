@@ -1,3 +1,5 @@
+//! The Refs that are reached from one, and the number of nodes.
+
 ghost use Rattle.std.specs.Prelude.{◌≡◌, ℕ, IfOk, OnOk, true};
 ghost use Rattle.spd_nodes.specs.Shown.{Shown, IsSound};
 ghost use Rattle.spd_nodes.specs.Refs.{IsClosed, Visits, IsReached, node_count};

@@ -1,3 +1,5 @@
+//! Refs in order, each once.
+
 ghost use Rattle.std.specs.Prelude.{◌≡◌, ℕ, ◌<◌, ◌↔◌, List, [], length, slice_get, Some, IsTrue, OnOk, OnErr, Contains};
 ghost use Rattle.spd_nodes.specs.Refs.{AddsRef};
 

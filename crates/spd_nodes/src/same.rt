@@ -1,3 +1,5 @@
+//! Whether two Refs stand for one function.
+
 ghost use Rattle.std.specs.Prelude.{◌≡◌, ℕ, ◌↔◌, IsTrue, true};
 ghost use Rattle.spd_nodes.specs.Trees.{IsAt};
 ghost use Rattle.spd_nodes.specs.States.{Agree, AgreePast};

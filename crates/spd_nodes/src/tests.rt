@@ -1,14 +1,17 @@
+//! Tests of what no clause says, and each call once.
+
 ghost use Rattle.std.specs.Prelude.{◌≡◌, ℕ, ◌<◌, ◌∷◌, []};
 ghost use Rattle.spd_nodes.specs.Levels.{levels_of, slots};
 
 use crate::alone::Alone;
+use crate::conditions::{can_test, is_whole};
 use crate::counting::Counting;
 use crate::forest::{Forest, StoreFault};
 use crate::layout::{Layout, Level};
 use crate::leaf::Leaf;
 use crate::reach::{count, reached};
 use crate::same::{is_same_function, is_same_rest};
-use crate::steps::Steps;
+use spd_cons_core::Steps;
 use std::alloc::Global;
 use std::marker::Brand;
 use std::sync::ledger::{Blank, Ledger};
@@ -158,6 +161,60 @@ fn equal_refs_are_the_same(rt: HostRuntime) -> Result<(), Fail> {
     Ok(())
 }
 
+/// With three values: whether a leaf, a test of the first value and one of the second value are whole; and whether the test of
+/// the second value may be the `no`, and the `yes`, of the first value's, and the `no` of its own.
+fn conditions<F: Forest, L: Ledger>(forest: &mut F, steps: &mut Steps<L>) -> Result<[bool; 6], Fail>
+    requires { (F.shows forest.old).sizes ≡ 3 ∷ [] }
+{
+    let zero = forest.leaf(Leaf::Num(0), steps)?;
+    let one = forest.leaf(Leaf::Num(1), steps)?;
+    let first = forest.test(Level(0), one, zero, steps)?;
+    let second = forest.test(Level(1), one, zero, steps)?;
+    Ok([
+        is_whole(forest, one),
+        is_whole(forest, first),
+        is_whole(forest, second),
+        can_test(forest, Level(0), one, second),
+        can_test(forest, Level(0), second, one),
+        can_test(forest, Level(1), one, second),
+    ])
+}
+
+/// The same over a forest of 64 entries.
+fn conditions_alone<L: Ledger>(alloc: Global, blank: Blank) -> Result<[bool; 6], Fail>
+    requires name { blank.name ≡ L.name }
+    requires parts { blank.parts ≡ L.parts }
+    requires one { 0 < blank.parts }
+{
+    let mut steps = Steps::<L>::new(blank);
+    let mut forest = Alone::new(alloc, Layout::new(alloc, &[3])?, 64)?;
+    conditions(&mut forest, &mut steps)
+}
+
+#[test]
+fn conditions_are_tested(rt: HostRuntime) -> Result<(), Fail> {
+    let seen = conditions_alone::<Brand>(rt.alloc(), Blank::new(1))?;
+    assert_eq!(rt; seen, [true, true, false, true, false, false]);
+    Ok(())
+}
+
+#[test]
+fn layouts_are_tested(rt: HostRuntime) -> Result<(), Fail> {
+    for (sizes, fits) in [
+        (&[2, 3, 1][..], true),
+        (&[64, 64, 64, 64, 5][..], true),
+        (&[64, 64, 64, 64, 6][..], false),
+        (&[2, 0][..], false),
+        (&[65][..], false),
+        (&[1; 100][..], true),
+        (&[1; 101][..], false),
+        (&[][..], false),
+    ] {
+        assert_eq!(rt; Layout::fits(sizes), fits);
+    }
+    Ok(())
+}
+
 #[test]
 fn levels_go_primed_before_plain(rt: HostRuntime) -> Result<(), Fail> {
     let layout = Layout::new(rt.alloc(), &[2, 3, 1])?;
@@ -174,5 +231,6 @@ fn levels_go_primed_before_plain(rt: HostRuntime) -> Result<(), Fail> {
     }
     assert_eq!(rt; layout.tests(2, true), (6, 6));
     assert_eq!(rt; layout.tests(1, false), (4, 6));
+    assert_eq!(rt; layout.end(Level(2)), 4);
     Ok(())
 }

@@ -8,16 +8,15 @@ use Rattle.spd_cons_core.specs.declared.key.Entry.{Entry}
 use Rattle.spd_nodes.specs.declared.leaf.Leaf.{Leaf}
 use Rattle.spd_nodes.specs.declared.leaf.Leaf.TheVariants.{Act}
 use Rattle.spd_nodes.specs.declared.forest.StoreFault.{StoreFault}
-use Rattle.spd_nodes.specs.Levels.{slots, slot_of}
+use Rattle.spd_nodes.specs.Levels.{slots, slot_of, IsSlot}
 use Rattle.spd_nodes.specs.Trees.{IsNode, IsFrom, IsReduced}
-use Rattle.spd_nodes.specs.States.{Function, IsState, point, test_tree, test_trees, function_of, Agree}
-use Rattle.spd_nodes.specs.Shown.{Shown, IsSound, IsWhole, StandsFor, MakesNodesOf, FaultsAt, Faults, MakesOnly, Grows, meaning}
-use Rattle.spd_nodes.proofs.ShownLaws.{Within, makes-within, makes-then, faults-within, stands-for}
-use Rattle.spd_nodes.proofs.StateLaws.{positive-slots, test_tree-agree, InRange-point}
-use Rattle.spd_restrict.specs.Restricted.{IsSlot}
-use Rattle.spd_restrict.specs.Chosen.{value_of, function_at, chosen, chosen_from, chosen_below, branch_functions}
+use Rattle.spd_model.specs.States.{IsState}
+use Rattle.spd_nodes.specs.States.{Function, point, test_tree, test_trees, function_of, Agree}
+use Rattle.spd_nodes.specs.Shown.{Shown, IsSound, IsWhole, StandsFor, MakesAmong, MakesDiagram, meaning}
+use Rattle.spd_nodes.proofs.CallerLemmas.{IsState-point, IsTreeFor, Within, among-agrees, among-then, diagram-agrees, makes_among-known, stands-for}
+use Rattle.spd_restrict.specs.Chosen.{variable_value, function_at, chosen, chosen_from, chosen_below, branch_functions}
 use Rattle.spd_restrict.specs.Replaced.{replaced_at, replaced, MayReplace}
-use Rattle.spd_apply.proofs.HalfLaws.{aligned-from}
+use Rattle.spd_apply.proofs.CallerLemmas.{aligned-from}
 use Rattle.spd_restrict.proofs.ReplacedLaws.{value_at-replaced, replaced-whole, whole-from}
 
 -- the value of a point in a variable's slot is the variable's value
@@ -39,7 +38,7 @@ point-plain (d ∷ ds) (x ∷ s) (y ∷ t) (suc var) p q h =
     let e : 2 * suc var + 1 ≡ suc (suc (2 * var + 1)) = omega arith in
     rw e (point-plain ds s t var p.1 q.1 (omega arith))
 
-pub point-value : (sizes s t : List ℕ) (var : ℕ) (primed : Bool) → IsState sizes s → IsState sizes t → var < length sizes → get_or (point s t) (slot_of var primed) 0 ≡ value_of var primed s t
+pub point-value : (sizes s t : List ℕ) (var : ℕ) (primed : Bool) → IsState sizes s → IsState sizes t → var < length sizes → get_or (point s t) (slot_of var primed) 0 ≡ variable_value var primed s t
 point-value sizes s t var true p q h = point-primed sizes s t var p q h
 point-value sizes s t var false p q h = point-plain sizes s t var p q h
 
@@ -50,7 +49,7 @@ in-state (d ∷ ds) [] var p h = absurd p
 in-state (d ∷ ds) (x ∷ s) zero p h = p.0
 in-state (d ∷ ds) (x ∷ s) (suc var) p h = in-state ds s var p.1 (omega arith)
 
-pub value-in : (sizes s t : List ℕ) (var : ℕ) (primed : Bool) → IsState sizes s → IsState sizes t → var < length sizes → value_of var primed s t < get_or sizes var 0
+pub value-in : (sizes s t : List ℕ) (var : ℕ) (primed : Bool) → IsState sizes s → IsState sizes t → var < length sizes → variable_value var primed s t < get_or sizes var 0
 value-in sizes s t var true p q h = in-state sizes t var q h
 value-in sizes s t var false p q h = in-state sizes s var p h
 
@@ -71,40 +70,20 @@ module _ (first end value var : ℕ) (primed : Bool) (s : Shown) (o : IsSound s)
     right = whole-from ds first 0 (s.tree g) wg;
   }
 
-  both : IsReduced ds 0 (replaced first value (s.tree f) (s.tree g)) × IsFrom ds 0 0 (replaced first value (s.tree f) (s.tree g))
-  both = replaced-whole ds (slot_of var primed) first end is value v (s.tree f) (s.tree g) (o.reduced f kf) (o.reduced g kg) wf wg
-
-  pub replace-reduced : IsReduced ds 0 (replaced first value (s.tree f) (s.tree g))
-  replace-reduced = both.0
-
-  pub replace-whole : IsFrom ds 0 0 (replaced first value (s.tree f) (s.tree g))
-  replace-whole = both.1
-
-  pub replace-value : Agree s.sizes (function_of s.sizes (replaced first value (s.tree f) (s.tree g))) (replaced_at var primed value (meaning s f) (meaning s g))
-  replace-value = record {
-    at = λ x y i j.
-        value_at-replaced ds (slot_of var primed) first end is value (point x y) (InRange-point s.sizes x y i j) v (s.tree f) (s.tree g)
-        ∙ ap (λ w. cond (w == value) (meaning s f x y) (meaning s g x y)) (point-value s.sizes x y var primed i j h);
-  }
-
--- what is said of a function is said of one that agrees with it
-module _ (s t : Shown) (o : IsSound s) (f g : Function) (h : Agree s.sizes f g) where
-  same-tree : test_tree s.sizes f ≡ test_tree s.sizes g
-  same-tree = test_tree-agree s.sizes (positive-slots s.sizes o.layout.values) f g h
-
-  pub agree-stands : t.sizes ≡ s.sizes → (r : Entry) → StandsFor t r f → StandsFor t r g
-  agree-stands z r w = record {
-    knows = w.knows;
-    whole = w.whole;
-    value = record { at = λ x y i j. w.value.at x y i j ∙ h.at x y (rw z at i) (rw z at j) };
-    tree = w.tree ∙ subst (λ (v : List ℕ). test_tree v f ≡ test_tree v g) (sym z) same-tree;
-  }
-
-  pub agree-makes : MakesNodesOf s t (f ∷ []) → MakesNodesOf s t (g ∷ [])
-  agree-makes m = subst (λ u. MakesOnly s t (u ∷ [])) same-tree m
-
-  pub agree-faults : t.sizes ≡ s.sizes → (e : StoreFault) → FaultsAt e t (f ∷ []) → FaultsAt e t (g ∷ [])
-  agree-faults z e m = subst (λ u. Faults e t (u ∷ [])) (subst (λ (v : List ℕ). test_tree v f ≡ test_tree v g) (sym z) same-tree) m
+  -- what is made is the tree of one function at the value and of the other one elsewhere
+  pub replace-tree : IsTreeFor s (replaced first value (s.tree f) (s.tree g)) (replaced_at var primed value (meaning s f) (meaning s g))
+  replace-tree =
+      let w : IsReduced ds 0 (replaced first value (s.tree f) (s.tree g)) × IsFrom ds 0 0 (replaced first value (s.tree f) (s.tree g)) =
+      replaced-whole ds (slot_of var primed) first end is value v (s.tree f) (s.tree g) (o.reduced f kf) (o.reduced g kg) wf wg in
+      record {
+        reduced = w.0;
+        whole = w.1;
+        value = record {
+          at = λ x y i j.
+              value_at-replaced ds (slot_of var primed) first end is value (point x y) (IsState-point s.sizes x y i j) v (s.tree f) (s.tree g)
+              ∙ ap (λ w. cond (w == value) (meaning s f x y) (meaning s g x y)) (point-value s.sizes x y var primed i j h);
+        };
+      }
 
 -- a function of a branch is among them
 pub chosen-within : (sizes : List ℕ) (var : ℕ) (primed : Bool) (fs : List Function) (value n : ℕ) → value < n → Within (test_tree sizes (chosen_from value var primed fs) ∷ []) (test_trees sizes (chosen_below n var primed fs))
@@ -156,79 +135,49 @@ module _ (s : Shown) (o : IsSound s) (var : ℕ) (primed : Bool) (kids : List En
   length-fs : length fs ≡ length kids
   length-fs = length-map kids (meaning s)
 
-  pub count-small : length kids ≤ 64
-  count-small = omega (arith, count, (All-get_or (λ n. (0 < n) × (n ≤ 64)) s.sizes var 0 h o.layout.values).1)
-
   -- the last kid is the branch from the last value on
   last-agree : (v : ℕ) → v + 1 ≡ length kids → Agree s.sizes (meaning s (kid v)) (chosen_from v var primed fs)
-  last-agree v e = record { at = λ x y i j. go x y (value-in s.sizes x y var primed i j h) (nat_lt (value_of var primed x y) v) refl }
+  last-agree v e = record { at = λ x y i j. go x y (value-in s.sizes x y var primed i j h) (nat_lt (variable_value var primed x y) v) refl }
     where
       last : length fs - 1 ≡ v
       last = omega (arith, length-fs)
 
-      go : (x y : List ℕ) → value_of var primed x y < get_or s.sizes var 0 → (b : Bool) → nat_lt (value_of var primed x y) v ≡ b
-          → meaning s (kid v) x y ≡ cond b (function_at fs (length fs - 1) x y) (function_at fs (value_of var primed x y) x y)
+      go : (x y : List ℕ) → variable_value var primed x y < get_or s.sizes var 0 → (b : Bool) → nat_lt (variable_value var primed x y) v ≡ b
+          → meaning s (kid v) x y ≡ cond b (function_at fs (length fs - 1) x y) (function_at fs (variable_value var primed x y) x y)
       go x y i true q = ap (λ (f : Function). f x y) (sym (kid-function v (omega arith)) ∙ ap (function_at fs) (sym last))
       go x y i false q =
-          let w : v ≡ value_of var primed x y = grind (arith, nat_tests) in
+          let w : v ≡ variable_value var primed x y = grind (arith, nat_tests) in
           ap (λ (f : Function). f x y) (sym (kid-function v (omega arith)) ∙ ap (function_at fs) w)
 
-  pub last-stands : (v : ℕ) → v + 1 ≡ length kids → StandsFor s (kid v) (chosen_from v var primed fs)
-  last-stands v e = stands-for s o (kid v) (chosen_from v var primed fs) (kid-known v (omega arith)) (kid-whole v (omega arith)) (last-agree v e)
+  pub last-made : (v : ℕ) → v + 1 ≡ length kids → MakesAmong s s (chosen_from v var primed fs) Branch (Ok (kid v))
+  last-made v e = makes_among-known s o (kid v) (chosen_from v var primed fs) Branch (stands-for s o (kid v) (chosen_from v var primed fs) (kid-known v (omega arith)) (kid-whole v (omega arith)) (last-agree v e))
 
   -- from the first value on it is the branch
   zero-agree : Agree s.sizes (chosen_from 0 var primed fs) (chosen var primed fs)
   zero-agree = record {
     at = λ x y i j.
-        let a : nat_lt (value_of var primed x y) 0 ≡ false = grind (arith, nat_tests) in
+        let a : nat_lt (variable_value var primed x y) 0 ≡ false = grind (arith, nat_tests) in
         rw a refl;
   }
 
-  pub branch-ok : (t : Shown) → t.sizes ≡ s.sizes → (r : Result Entry StoreFault) → IfOk r (λ q. StandsFor t q (chosen_from 0 var primed fs)) → IfOk r (λ q. StandsFor t q (chosen var primed fs))
-  branch-ok t z (Err e) w = tt
-  branch-ok t z (Ok r) w = agree-stands s t o (chosen_from 0 var primed fs) (chosen var primed fs) zero-agree z r w
+  pub branch-made : (t : Shown) (r : Result Entry StoreFault) → MakesAmong s t (chosen_from 0 var primed fs) Branch r → MakesAmong s t (chosen var primed fs) Branch r
+  branch-made t r m = among-agrees o zero-agree m
 
   -- a kid in the place of a branch from the next value on
-  module _ (v : ℕ) (hv : v + 1 < length kids) (t : Shown) (ot : IsSound t) (grows : Grows s t) (rest : Entry) (stands : StandsFor t rest (chosen_from (v + 1) var primed fs)) where
-    pub kid-stays : t.knows (kid v) ≡ true
-    kid-stays = grows.knows (kid v) (kid-known v (omega arith))
-
+  module _ (v : ℕ) (hv : v + 1 < length kids) (t : Shown) (rest : Entry) (made : MakesAmong s t (chosen_from (v + 1) var primed fs) Branch (Ok rest)) where
     kid-tree : t.tree (kid v) ≡ s.tree (kid v)
-    kid-tree = grows.trees (kid v) (kid-known v (omega arith))
-
-    pub kid-whole-then : IsWhole t (kid v)
-    kid-whole-then = rw (grows.sizes, kid-tree) (kid-whole v (omega arith))
-
-    pub value-room : v + 1 < get_or t.sizes var 0
-    value-room = rw grows.sizes (omega (arith, count))
+    kid-tree = made.grows.trees (kid v) (kid-known v (omega arith))
 
     kid-meaning : meaning t (kid v) ≡ function_at fs v
-    kid-meaning = rw (grows.sizes, kid-tree) (sym (kid-function v (omega arith)))
+    kid-meaning = rw (made.grows.sizes, kid-tree) (sym (kid-function v (omega arith)))
 
     step-agree : Agree t.sizes (replaced_at var primed v (meaning t (kid v)) (meaning t rest)) (chosen_from v var primed fs)
     step-agree = record {
       at = λ x y i j.
-          ap (λ (f : Function). cond (value_of var primed x y == v) (f x y) (meaning t rest x y)) kid-meaning
-          ∙ ap (λ (a : Leaf). cond (value_of var primed x y == v) (function_at fs v x y) a) (stands.value.at x y i j)
-          ∙ next-pick (value_of var primed x y) v (function_at fs (length fs - 1) x y) (λ n. function_at fs n x y);
+          ap (λ (f : Function). cond (variable_value var primed x y == v) (f x y) (meaning t rest x y)) kid-meaning
+          ∙ ap (λ (a : Leaf). cond (variable_value var primed x y == v) (function_at fs v x y) a) (made.ok.value.at x y i j)
+          ∙ next-pick (variable_value var primed x y) v (function_at fs (length fs - 1) x y) (λ n. function_at fs n x y);
     }
 
-    within : Within (test_tree s.sizes (chosen_from v var primed fs) ∷ []) (test_trees s.sizes Branch)
-    within = chosen-within s.sizes var primed fs v (length fs) (omega (arith, length-fs))
-
-    module _ (w : Shown) (gw : Grows t w) where
-      pub step-ok : (r : Result Entry StoreFault) → IfOk r (λ q. StandsFor w q (replaced_at var primed v (meaning t (kid v)) (meaning t rest))) → IfOk r (λ q. StandsFor w q (chosen_from v var primed fs))
-      step-ok (Err e) q = tt
-      step-ok (Ok r) q = agree-stands t w ot _ (chosen_from v var primed fs) step-agree gw.sizes r q
-
-      pub step-makes : MakesNodesOf s t Branch → MakesNodesOf t w (replaced_at var primed v (meaning t (kid v)) (meaning t rest) ∷ []) → MakesNodesOf s w Branch
-      step-makes first second =
-          let one : MakesNodesOf t w (chosen_from v var primed fs ∷ []) = agree-makes t w ot _ (chosen_from v var primed fs) step-agree second in
-          makes-then ot gw first (makes-within within (subst (λ (z : List ℕ). MakesOnly t w (test_tree z (chosen_from v var primed fs) ∷ [])) grows.sizes one))
-
-      pub step-faults : (r : Result Entry StoreFault) → IfErr r (λ e. FaultsAt e w (replaced_at var primed v (meaning t (kid v)) (meaning t rest) ∷ [])) → IfErr r (λ e. FaultsAt e w Branch)
-      step-faults (Ok r) q = tt
-      step-faults (Err e) q =
-          let one : FaultsAt e w (chosen_from v var primed fs ∷ []) = agree-faults t w ot _ (chosen_from v var primed fs) step-agree gw.sizes e q in
-          let same : w.sizes ≡ s.sizes = gw.sizes ∙ grows.sizes in
-          faults-within e w (rw same within) one
+    pub step-made : (w : Shown) (r : Result Entry StoreFault) → MakesDiagram t w (replaced_at var primed v (meaning t (kid v)) (meaning t rest)) r → MakesAmong s w (chosen_from v var primed fs) Branch r
+    step-made w r m = among-then (chosen-within s.sizes var primed fs v (length fs) (omega (arith, length-fs))) made (diagram-agrees made.sound step-agree m)

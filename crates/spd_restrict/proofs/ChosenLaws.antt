@@ -1,5 +1,5 @@
 -- How one diagram goes in another one's place, and what the branches of a variable are.
-use Rattle.std.proofs.Common.{◌≡◌, ℕ, ◌==◌, suc, ◌+◌, ◌<◌, ◌≤◌, ◌⊎◌, inl, inr, true, Some, List, [], ◌∷◌, refl, sym, subst, arith}
+use Rattle.std.proofs.Common.{◌≡◌, ℕ, ◌==◌, suc, ◌+◌, ◌<◌, ◌≤◌, ◌⊎◌, inl, inr, true, Some, List, [], ◌∷◌, refl, sym, subst, arith, Result, Ok, Err}
 use Rattle.std.proofs.lemmas.Bool.Decides.{Decides-eqb}
 use Rattle.spd_cons_core.specs.declared.key.Entry.{Entry}
 use Rattle.spd_nodes.specs.declared.layout.Level.{Level}
@@ -7,19 +7,15 @@ use Rattle.spd_nodes.specs.declared.forest.View.{View}
 use Rattle.spd_nodes.specs.Levels.{levels_of, slots, after}
 use Rattle.spd_nodes.specs.Trees.{Tree, IsFrom, IsAt, CanTest, join}
 use Rattle.spd_nodes.specs.declared.forest.StoreFault.{StoreFault}
-use Rattle.spd_nodes.specs.Shown.{Shown, IsSound, Grows, MakesOnly, Faults, KnowsAs, IsViewOf}
-use Rattle.spd_nodes.proofs.ShownLaws.{Within, makes-within, makes-then, faults-within}
-use Rattle.spd_nodes.proofs.StateLaws.{levels_of-slots}
+use Rattle.spd_nodes.specs.Shown.{Shown, IsSound, KnowsAs, IsViewOf, MakesTree}
 use Rattle.spd_apply.specs.declared.rule.Below.TheVariants as B
 use Rattle.spd_apply.specs.Halves.{yes_at, no_at}
-use Rattle.spd_apply.specs.Rules.{PlansBelow, PlansTest}
+use Rattle.spd_apply.specs.declared.rule.Node.{Node}
+use Rattle.spd_apply.specs.Rules.{IsNodeAt, PlansBelow, PlansTest}
 use Rattle.spd_apply.specs.Views.{lower_of_views, next_yes, next_no}
-use Rattle.spd_apply.proofs.MeetingLaws.{Meets, GoesDown, descends}
-use Rattle.spd_apply.proofs.HalfLaws.{Splits, splits-fits, after-next, after_le, Joins}
-use Rattle.spd_apply.proofs.PlanLaws.{Known, next_yes-is, next_no-is, MayMeetHalves, plans-at}
-use Rattle.spd_apply.proofs.Steps.{within-no}
+use Rattle.spd_apply.proofs.CallerLemmas.{GoesDown, MayMeetHalves, Meets, Splits, descends, next_no-is, next_yes-is, plans-at, splits-fits}
+use Rattle.spd_nodes.proofs.CallerLemmas.{after_le, after-next, Joins, after-before, within-no, Within, levels_of-slots, part-fails, part-then}
 use Rattle.spd_restrict.specs.Replaced.{replaced, replaced_after, MayReplace, CanReplace, IsWholeFrom}
-use Rattle.spd_restrict.proofs.SlotLaws.{after-before}
 use Rattle.spd_restrict.proofs.ReplacedLaws.{replaced-goes, replaced-itself, whole-from, whole-at, fits-next, joins-replaced_after}
 
 module _ (first value : ℕ) (s : Shown) (o : IsSound s) (f g : Entry) (kf : s.knows f ≡ true) (kg : s.knows g ≡ true) (may : MayReplace first value s.sizes (s.tree f) (s.tree g)) where
@@ -74,58 +70,58 @@ module _ (first value : ℕ) (s : Shown) (o : IsSound s) (f g : Entry) (kf : s.k
         smaller = omega arith;
       }
 
--- One test of a slot after the other, in two entries whose views are these.
-module _ (n : ℕ) (l : Level) (s : Shown) (o : IsSound s) (f g : Entry) (kf : s.knows f ≡ true) (kg : s.knows g ≡ true) (can : CanReplace n l.0 s.sizes (s.tree f) (s.tree g))
-    (a b : View) (va : IsViewOf s f a) (vb : IsViewOf s g b) where
+-- What is known of two diagrams at a slot's test, before so many tests until the value's own one.
+module _ (n : ℕ) (l : Level) (s : Shown) (o : IsSound s) (f g : Node) (kf : IsNodeAt s f) (kg : IsNodeAt s g) (can : CanReplace n l.0 s.sizes (s.tree f.name) (s.tree g.name)) where
   abbrev all : List ℕ
   all = slots s.sizes
 
   abbrev pub fy : Entry
-  fy = next_yes a f l
+  fy = next_yes f.root f.name l
 
   abbrev pub fn : Entry
-  fn = next_no a f l
+  fn = next_no f.root f.name l
 
   abbrev pub gy : Entry
-  gy = next_yes b g l
+  gy = next_yes g.root g.name l
 
   abbrev pub gn : Entry
-  gn = next_no b g l
+  gn = next_no g.root g.name l
 
   abbrev pub Whole : Tree
-  Whole = replaced_after n l.0 (s.tree f) (s.tree g)
+  Whole = replaced_after n l.0 (s.tree f.name) (s.tree g.name)
 
-  pub level-in : l.0 < levels_of all
-  level-in = omega (arith, can.within, after_le all l.0)
+  pub record AtTest : Type 0 where
+    pub level_in : l.0 < levels_of all
+    pub level_room : l.0 + 1 ≤ 512
+    pub left : Splits all l.0 (s.tree f.name)
+    pub right : Splits all l.0 (s.tree g.name)
+    pub left_yes : KnowsAs s fy (yes_at l.0 (s.tree f.name))
+    pub left_no : KnowsAs s fn (no_at l.0 (s.tree f.name))
+    pub right_yes : KnowsAs s gy (yes_at l.0 (s.tree g.name))
+    pub right_no : KnowsAs s gn (no_at l.0 (s.tree g.name))
 
-  pub level-room : l.0 + 1 ≤ 512
-  level-room = omega (arith, level-in, levels_of-slots s.sizes, o.layout.tests)
-
-  left : Splits all l.0 (s.tree f)
-  left = splits-fits all l.0 (s.tree f) (omega (arith, can.within)) (o.reduced f kf) can.left
-
-  right : Splits all l.0 (s.tree g)
-  right = splits-fits all l.0 (s.tree g) (omega (arith, can.within)) (o.reduced g kg) can.right
-
-  is-fy : Known s fy (yes_at l.0 (s.tree f))
-  is-fy = next_yes-is s a f l kf va
-
-  is-fn : Known s fn (no_at l.0 (s.tree f))
-  is-fn = next_no-is s a f l kf va
-
-  is-gy : Known s gy (yes_at l.0 (s.tree g))
-  is-gy = next_yes-is s b g l kg vb
-
-  is-gn : Known s gn (no_at l.0 (s.tree g))
-  is-gn = next_no-is s b g l kg vb
+  pub at-test : AtTest
+  at-test =
+      let within : l.0 < levels_of all = omega (arith, can.within, after_le all l.0) in
+      record {
+        level_in = within;
+        level_room = omega (arith, within, levels_of-slots s.sizes, o.layout.tests);
+        left = splits-fits all l.0 (s.tree f.name) (omega (arith, can.within)) (o.reduced f.name kf.known) can.left;
+        right = splits-fits all l.0 (s.tree g.name) (omega (arith, can.within)) (o.reduced g.name kg.known) can.right;
+        left_yes = next_yes-is s f.root f.name l kf.known kf.root;
+        left_no = next_no-is s f.root f.name l kf.known kf.root;
+        right_yes = next_yes-is s g.root g.name l kg.known kg.root;
+        right_no = next_no-is s g.root g.name l kg.known kg.root;
+      }
 
   -- the value's own test
   pub can-own : CanTest all l.0 (s.tree fy) (s.tree gn)
-  can-own = rw (is-fy.tree, is-gn.tree) (record { yes_fits = left.yes_from; no_fits = right.no_fits })
+  can-own = rw (at-test.left_yes.tree, at-test.right_no.tree) (record { yes_fits = at-test.left.yes_from; no_fits = at-test.right.no_fits })
 
-  pub own-is : n ≡ 0 → join l.0 (s.tree fy) (s.tree gn) ≡ Whole
-  own-is e = rw (is-fy.tree, is-gn.tree, e) refl
+  pub own-made : n ≡ 0 → (t : Shown) (r : Result Entry StoreFault) → MakesTree s t (join l.0 (s.tree fy) (s.tree gn)) r → MakesTree s t Whole r
+  own-made e t r m = rw e (rw (at-test.left_yes.tree, at-test.right_no.tree) at m)
 
+  -- one of the tests before it, and the rest
   module _ (m : ℕ) (e : n ≡ suc m) where
     abbrev pub Rest : Tree
     Rest = replaced_after m (l.0 + 1) (s.tree fn) (s.tree gn)
@@ -137,46 +133,37 @@ module _ (n : ℕ) (l : Level) (s : Shown) (o : IsSound s) (f g : Entry) (kf : s
     room = let z : after all (l.0 + 1) ≡ after all l.0 = after-next all l.0 next in omega (arith, can.within)
 
     pub rest-can : CanReplace m (l.0 + 1) s.sizes (s.tree fn) (s.tree gn)
-    rest-can = rw (is-fn.tree, is-gn.tree) (record { within = room; left = fits-next all l.0 (s.tree f) next left; right = fits-next all l.0 (s.tree g) next right })
-
-    pub rest-known : (s.knows fn ≡ true) × (s.knows gn ≡ true)
-    rest-known = (is-fn.knows, is-gn.knows)
+    rest-can = rw (at-test.left_no.tree, at-test.right_no.tree) (record { within = room; left = fits-next all l.0 (s.tree f.name) next at-test.left; right = fits-next all l.0 (s.tree g.name) next at-test.right })
 
     whole-is : Whole ≡ join l.0 (s.tree gy) Rest
-    whole-is = rw (e, is-gy.tree, is-fn.tree, is-gn.tree) refl
+    whole-is = rw (e, at-test.right_yes.tree, at-test.left_no.tree, at-test.right_no.tree) refl
 
-    rest-within : Within (Rest ∷ []) (Whole ∷ [])
-    rest-within = rw whole-is (within-no l.0 (s.tree gy) Rest)
+    rest-part : Within (Rest ∷ []) (Whole ∷ [])
+    rest-part = rw whole-is (within-no l.0 (s.tree gy) Rest)
 
     can-rest : CanTest all l.0 (s.tree gy) Rest
     can-rest =
         let z : after all (l.0 + 1) ≡ after all l.0 = after-next all l.0 next in
-        let j : Joins all (l.0 + 1) (replaced_after m (l.0 + 1) (no_at l.0 (s.tree f)) (no_at l.0 (s.tree g))) =
-        joins-replaced_after all m (l.0 + 1) (no_at l.0 (s.tree f)) (no_at l.0 (s.tree g)) room left.no_reduced right.no_reduced (fits-next all l.0 (s.tree f) next left) (fits-next all l.0 (s.tree g) next right) in
-        rw (is-gy.tree, is-fn.tree, is-gn.tree) (record { yes_fits = right.yes_from; no_fits = elim j.fits [ inl q ↦ inl (rw z at q) | inr q ↦ inr (q, next) ] })
+        let j : Joins all (l.0 + 1) (replaced_after m (l.0 + 1) (no_at l.0 (s.tree f.name)) (no_at l.0 (s.tree g.name))) =
+        joins-replaced_after all m (l.0 + 1) (no_at l.0 (s.tree f.name)) (no_at l.0 (s.tree g.name)) room at-test.left.no_reduced at-test.right.no_reduced (fits-next all l.0 (s.tree f.name) next at-test.left) (fits-next all l.0 (s.tree g.name) next at-test.right) in
+        rw (at-test.right_yes.tree, at-test.left_no.tree, at-test.right_no.tree) (record { yes_fits = at-test.right.yes_from; no_fits = elim j.fits [ inl q ↦ inl (rw z at q) | inr q ↦ inr (q, next) ] })
 
-    module _ (t : Shown) (ot : IsSound t) (grows : Grows s t) (makes : MakesOnly s t (Rest ∷ [])) where
-      pub rest-makes : MakesOnly s t (Whole ∷ [])
-      rest-makes = makes-within rest-within makes
+    module _ (t : Shown) where
+      pub rest-fails : (v : StoreFault) → MakesTree s t Rest (Err v) → MakesTree s t Whole (Err v)
+      rest-fails v h = part-fails v rest-part h
 
-      pub rest-fault : (v : StoreFault) → Faults v t (Rest ∷ []) → Faults v t (Whole ∷ [])
-      rest-fault v h = faults-within v t rest-within h
-
-      pub yes-known : t.knows gy ≡ true
-      yes-known = grows.knows gy is-gy.knows
-
-      module _ (r : Entry) (known : KnowsAs t r Rest) where
+      module _ (r : Entry) (made : MakesTree s t Rest (Ok r)) where
         yes-tree : t.tree gy ≡ s.tree gy
-        yes-tree = grows.trees gy is-gy.knows
+        yes-tree = made.grows.trees gy at-test.right_yes.knows
+
+        pub yes-known : t.knows gy ≡ true
+        yes-known = made.grows.knows gy at-test.right_yes.knows
 
         pub level-then : l.0 < levels_of (slots t.sizes)
-        level-then = rw grows.sizes level-in
+        level-then = rw made.grows.sizes at-test.level_in
 
         pub can-then : CanTest (slots t.sizes) l.0 (t.tree gy) (t.tree r)
-        can-then = rw (grows.sizes, yes-tree, known.tree) can-rest
+        can-then = rw (made.grows.sizes, yes-tree, made.ok.tree) can-rest
 
-        pub join-then : join l.0 (t.tree gy) (t.tree r) ≡ Whole
-        join-then = rw (yes-tree, known.tree) (sym whole-is)
-
-        pub makes-then-test : (w : Shown) → Grows t w → MakesOnly t w (join l.0 (t.tree gy) (t.tree r) ∷ []) → MakesOnly s w (Whole ∷ [])
-        makes-then-test w h i = makes-then ot h rest-makes (subst (λ u. MakesOnly t w (u ∷ [])) join-then i)
+        pub test-then : (w : Shown) (q : Result Entry StoreFault) → MakesTree t w (join l.0 (t.tree gy) (t.tree r)) q → MakesTree s w Whole q
+        test-then w q h = part-then rest-part made (subst (λ u. MakesTree t w u q) (rw (yes-tree, made.ok.tree) (sym whole-is)) h)

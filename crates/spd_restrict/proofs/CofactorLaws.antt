@@ -1,31 +1,13 @@
 -- A tree with one slot at a value has the tree's values there, and is reduced.
 use Rattle.std.proofs.Common.{◌≡◌, ℕ, ◌+◌, ◌-◌, ◌<◌, ◌≤◌, ◌≢◌, ◌⊎◌, inl, inr, ◌==◌, Bool, true, false, cond, List, set, refl, sym, ◌∙◌, subst, arith, true≢false}
 use Rattle.std.specs.Prelude.{nat_lt}
+use Rattle.std.proofs.lemmas.Bool.{ne_eqb}
 use Rattle.std.proofs.lemmas.Bool.Decides.{Decides-eqb, nat_tests}
-use Rattle.spd_nodes.specs.Levels.{levels_of, passes, after, InRange}
-use Rattle.spd_nodes.specs.Trees.{Tree, Ends, Tests, value_at, IsFrom, IsAt, IsReduced, CanTest, join}
-use Rattle.spd_nodes.proofs.TreeLaws.{after_above}
-use Rattle.spd_nodes.proofs.ValueLaws.{value_at-join}
-use Rattle.spd_apply.specs.Halves.{Fits}
-use Rattle.spd_apply.proofs.HalfLaws.{after-next, first0, level_of-reduced, Joins, joins, IsFrom-at, IsFrom-lower, after0}
-use Rattle.spd_restrict.specs.Restricted.{cofactored, IsSlot, IsUpTo}
-use Rattle.spd_restrict.proofs.SlotLaws.{after-in, after-before, first-in, passes-in, passes-before, passes-past}
-
-no-eq : (a b : ℕ) → a ≢ b → (a == b) ≡ false
-no-eq a b h = grind (arith, nat_tests)
-
--- the parts of a reduced test, with levels counted from 0
-pub record Parts (ds : List ℕ) (l : ℕ) (y n : Tree) : Type 0 where
-  pub level : l < levels_of ds
-  pub yes_from : IsFrom ds 0 (after ds l) y
-  pub no_fits : IsFrom ds 0 (after ds l) n ⊎ (IsAt (l + 1) n × (l + 1 < after ds l))
-  pub yes_reduced : IsReduced ds 0 y
-  pub no_reduced : IsReduced ds 0 n
-
-pub parts : (ds : List ℕ) (l : ℕ) (y n : Tree) → IsReduced ds 0 (Tests l y n) → Parts ds l y n
-parts ds l y n r =
-    let a : 0 + after ds (l - 0) ≡ after ds l = after0 ds l in
-    record { level = level_of-reduced ds l y n r; yes_from = rw a at r.3; no_fits = rw a at r.4; yes_reduced = r.5; no_reduced = r.6 }
+use Rattle.spd_model.specs.States.{IsState}
+use Rattle.spd_nodes.specs.Levels.{levels_of, passes, after, IsSlot}
+use Rattle.spd_nodes.specs.Trees.{Tree, Ends, Tests, value_at, IsFrom, IsAt, IsReduced, CanTest, join, IsAtOrPast}
+use Rattle.spd_nodes.proofs.CallerLemmas.{Parts, parts, after0, first0, after-next, level_of-reduced, Joins, joins, IsFrom-at, IsFrom-lower, after-in, after-before, first-in, passes-in, passes-before, passes-past, after_above, value_at-join}
+use Rattle.spd_restrict.specs.Restricted.{cofactored, IsUpTo}
 
 -- the root isn't below a level
 abbrev pub RootFrom : ℕ → Tree → Type 0
@@ -66,7 +48,7 @@ module _ (ds : List ℕ) (slot first end : ℕ) (s : IsSlot ds slot first end) w
     cof t = cofactored first end value t
 
     -- the tree at the slot's value has the tree's value at each point with that value
-    pub value_at-cofactored : (t : Tree) (p : List ℕ) → IsReduced ds 0 t → IsUpTo first end value t → InRange ds p → value_at ds 0 (cofactored first end value t) p ≡ value_at ds 0 t (set p slot value)
+    pub value_at-cofactored : (t : Tree) (p : List ℕ) → IsReduced ds 0 t → IsUpTo first end value t → IsState ds p → value_at ds 0 (cofactored first end value t) p ≡ value_at ds 0 t (set p slot value)
     value_at-cofactored (Ends a) p r u i = refl
     value_at-cofactored (Tests l y n) p r u i =
         go (nat_lt l first) (nat_lt l end) (l == first + value) refl refl refl
@@ -105,7 +87,7 @@ module _ (ds : List ℕ) (slot first end : ℕ) (s : IsSlot ds slot first end) w
             let hi : l < end = grind (arith, nat_tests) in
             let up : l ≤ first + value = u lo hi in
             let differ : l ≢ first + value = λ k. true≢false (sym ((Decides-eqb l (first + value)).1 k) ∙ ec) in
-            let v : (value == l - first) ≡ false = no-eq value (l - first) (λ k. differ (omega arith)) in
+            let v : (value == l - first) ≡ false = ne_eqb value (l - first) (λ k. differ (omega arith)) in
             let e : passes ds (l - 0) (set p slot value) ≡ false = rw z (passes-in ds slot first end l value p s lo hi i ∙ v) in
             rw e (inn (λ j k. omega arith))
         go false false c ea eb ec iy inn =
@@ -116,13 +98,13 @@ module _ (ds : List ℕ) (slot first end : ℕ) (s : IsSlot ds slot first end) w
     pub record Good (t : Tree) : Type 0 where
       pub reduced : IsReduced ds 0 (cofactored first end value t)
       pub from : (e : ℕ) → IsFrom ds 0 e t → IsFrom ds 0 e (cofactored first end value t)
-      pub fits : (k : ℕ) → k < first → IsAt k t → Fits ds k (cofactored first end value t)
+      pub fits : (k : ℕ) → k < first → IsAt k t → IsAtOrPast ds k (cofactored first end value t)
       pub inside : (k : ℕ) → first ≤ k → k < end → IsAt k t → IsFrom ds 0 end (cofactored first end value t)
 
     record GoodAs (l : ℕ) (y n t : Tree) : Type 0 where
       reduced : IsReduced ds 0 t
       from : (e : ℕ) → IsFrom ds 0 e (Tests l y n) → IsFrom ds 0 e t
-      fits : (k : ℕ) → k < first → l ≡ k → Fits ds k t
+      fits : (k : ℕ) → k < first → l ≡ k → IsAtOrPast ds k t
       inside : (k : ℕ) → first ≤ k → k < end → l ≡ k → IsFrom ds 0 end t
 
     good-as : (l : ℕ) (y n : Tree) → GoodAs l y n (cofactored first end value (Tests l y n)) → Good (Tests l y n)
@@ -161,7 +143,7 @@ module _ (ds : List ℕ) (slot first end : ℕ) (s : IsSlot ds slot first end) w
                 | inl k ↦ IsFrom-lower ds e (after ds l) _ (omega (arith, f.0)) k
                 | inr k ↦ IsFrom-at ds e l _ f.0 (first0 ds l f.1) k
               ];
-              fits = λ k i e. subst (λ v. Fits ds v (join l (cofactored first end value y) (cofactored first end value n))) e j.fits;
+              fits = λ k i e. subst (λ v. IsAtOrPast ds v (join l (cofactored first end value y) (cofactored first end value n))) e j.fits;
               inside = λ k i m e. absurd (omega arith);
             }
         go false true true ea eb ec gy gn =

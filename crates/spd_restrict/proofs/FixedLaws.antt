@@ -4,16 +4,16 @@ use Rattle.std.specs.Prelude.{nat_lt}
 use Rattle.std.proofs.lemmas.Bool.Decides.{Decides-eqb, nat_tests}
 use Rattle.spd_cons_core.specs.declared.key.Entry.{Entry}
 use Rattle.spd_nodes.specs.declared.leaf.Leaf.{Leaf}
-use Rattle.spd_nodes.specs.Levels.{slots, slot_of, level_at}
+use Rattle.spd_nodes.specs.Levels.{slots, slot_of, level_at, IsSlot}
 use Rattle.spd_nodes.specs.Trees.{Tree, Ends, Tests, value_at, IsFrom, IsReduced}
-use Rattle.spd_nodes.specs.States.{IsState, point, function_of, Agree}
+use Rattle.spd_model.specs.States.{IsState}
+use Rattle.spd_nodes.specs.States.{point, function_of, Agree}
 use Rattle.spd_nodes.specs.Shown.{Shown, IsSound, IsWhole, meaning}
-use Rattle.spd_nodes.proofs.RankLaws.{rank-view}
-use Rattle.spd_nodes.proofs.StateLaws.{InRange-point}
 use Rattle.spd_apply.specs.declared.rule.Below.TheVariants as B
 use Rattle.spd_apply.specs.Rules.{Making, MayMeet, PlansBelow, PlansTest}
-use Rattle.spd_restrict.specs.Restricted.{restricted, cofactored, IsSlot, IsUpTo, MayRestrict}
-use Rattle.spd_restrict.proofs.CofactorLaws.{Parts, parts, Good, good-cofactored, can-cofactor, value_at-cofactored, up-to-from, up-to-at}
+use Rattle.spd_restrict.specs.Restricted.{restricted, cofactored, IsUpTo, MayRestrict}
+use Rattle.spd_nodes.proofs.CallerLemmas.{IsTreeFor, Parts, parts, IsState-point, rank-view}
+use Rattle.spd_restrict.proofs.CofactorLaws.{Good, good-cofactored, can-cofactor, value_at-cofactored, up-to-from, up-to-at}
 
 module _ (first end value : ℕ) (s : Shown) (o : IsSound s) (f g : Entry) (kf : s.knows f ≡ true) (may : MayRestrict first end value s.sizes (s.tree f)) where
   abbrev ds : List ℕ
@@ -24,9 +24,6 @@ module _ (first end value : ℕ) (s : Shown) (o : IsSound s) (f g : Entry) (kf :
 
   abbrev may-meet : Tree → Tree → Type 0
   may-meet t u = MayRestrict first end value s.sizes t
-
-  pub plans-leaf : (a : Leaf) → s.tree f ≡ Ends a → PlansBelow making may-meet s f g (B.Known f)
-  plans-leaf a e = record { is = rw e refl; goes = kf; smaller = omega arith }
 
   module _ (l : ℕ) (y n : Entry) (e : s.tree f ≡ Tests l (s.tree y) (s.tree n)) (ky : s.knows y ≡ true) (kn : s.knows n ≡ true) where
     reduced : IsReduced ds 0 (Tests l (s.tree y) (s.tree n))
@@ -64,19 +61,6 @@ module _ (first end value : ℕ) (s : Shown) (o : IsSound s) (f g : Entry) (kf :
           no_smaller = omega (arith, smaller.1);
         }
 
-    pub plans-past : first ≤ l → end ≤ l → PlansBelow making may-meet s f g (B.Known f)
-    plans-past lo hi =
-        let t : nat_lt l first ≡ false = grind (arith, nat_tests) in
-        let u : nat_lt l end ≡ false = grind (arith, nat_tests) in
-        record { is = rw (e, t, u) refl; goes = kf; smaller = omega arith }
-
-    pub plans-yes : first ≤ l → l < end → l ≡ first + value → PlansBelow making may-meet s f g (B.Known y)
-    plans-yes lo hi at =
-        let t : nat_lt l first ≡ false = grind (arith, nat_tests) in
-        let u : nat_lt l end ≡ true = grind (arith, nat_tests) in
-        let v : (l == first + value) ≡ true = (Decides-eqb l (first + value)).1 at in
-        record { is = rw (e, t, u, v) refl; goes = ky; smaller = omega arith }
-
     pub plans-no : first ≤ l → l < end → l ≢ first + value → PlansBelow making may-meet s f g (B.Pair n n)
     plans-no lo hi differ =
         let t : nat_lt l first ≡ false = grind (arith, nat_tests) in
@@ -105,24 +89,6 @@ set-plain (d ∷ ds) (x ∷ s) (y ∷ t) (suc var) v p q h =
     let e : 2 * suc var + 1 ≡ suc (suc (2 * var + 1)) = omega arith in
     rw e (ap (λ r. y ∷ x ∷ r) (set-plain ds s t var v p.1 q.1 (omega arith)))
 
-slot-size : (ds : List ℕ) (var b : ℕ) → b < 2 → var < length ds → (2 * var + b < length (slots ds)) × (get_or (slots ds) (2 * var + b) 0 ≡ get_or ds var 0)
-slot-size [] var b g h = absurd (omega arith)
-slot-size (d ∷ ds) zero zero g h = (omega arith, refl)
-slot-size (d ∷ ds) zero (suc zero) g h = (omega arith, refl)
-slot-size (d ∷ ds) zero (suc (suc b)) g h = absurd (omega arith)
-slot-size (d ∷ ds) (suc var) b g h =
-    let e : 2 * suc var + b ≡ suc (suc (2 * var + b)) = omega arith in
-    let i = slot-size ds var b g (omega arith) in
-    rw e (omega (arith, i.0), i.1)
-
-pub slot-of : (sizes : List ℕ) (var first end : ℕ) (primed : Bool) → var < length sizes → first ≡ level_at sizes var primed 0 → end ≡ first + (get_or sizes var 0 - 1) → IsSlot (slots sizes) (slot_of var primed) first end
-slot-of sizes var first end true h f e =
-    let i = slot-size sizes var 0 (omega arith) h in
-    record { slot_in = i.0; first_is = omega (arith, f); end_is = rw i.1 e }
-slot-of sizes var first end false h f e =
-    let i = slot-size sizes var 1 (omega arith) h in
-    record { slot_in = i.0; first_is = omega (arith, f); end_is = rw i.1 e }
-
 module _ (first end value var : ℕ) (primed : Bool) (s : Shown) (o : IsSound s) (f : Entry) (kf : s.knows f ≡ true) (wf : IsWhole s f)
     (h : var < length s.sizes) (is : IsSlot (slots s.sizes) (slot_of var primed) first end) (v : first + value ≤ end) where
   up-whole : IsUpTo first end value (s.tree f)
@@ -134,17 +100,16 @@ module _ (first end value var : ℕ) (primed : Bool) (s : Shown) (o : IsSound s)
   good : Good (slots s.sizes) (slot_of var primed) first end is value (s.tree f)
   good = good-cofactored (slots s.sizes) (slot_of var primed) first end is value (s.tree f) (o.reduced f kf) up-whole
 
-  pub fixed-reduced : IsReduced (slots s.sizes) 0 (cofactored first end value (s.tree f))
-  fixed-reduced = good.reduced
-
-  pub fixed-whole : IsFrom (slots s.sizes) 0 0 (cofactored first end value (s.tree f))
-  fixed-whole = good.from 0 wf
-
-  pub fixed-value : Agree s.sizes (function_of s.sizes (cofactored first end value (s.tree f))) (restricted var primed value (meaning s f))
-  fixed-value = record {
-    at = λ x y i j.
-        value_at-cofactored (slots s.sizes) (slot_of var primed) first end is value (s.tree f) (point x y) (o.reduced f kf) up-whole (InRange-point s.sizes x y i j)
-        ∙ split primed x y i j;
+  -- what is made is the tree of the function with the value held
+  pub fixed-tree : IsTreeFor s (cofactored first end value (s.tree f)) (restricted var primed value (meaning s f))
+  fixed-tree = record {
+    reduced = good.reduced;
+    whole = good.from 0 wf;
+    value = record {
+      at = λ x y i j.
+          value_at-cofactored (slots s.sizes) (slot_of var primed) first end is value (s.tree f) (point x y) (o.reduced f kf) up-whole (IsState-point s.sizes x y i j)
+          ∙ split primed x y i j;
+    };
   }
     where
       split : (b : Bool) (x y : List ℕ) → IsState s.sizes x → IsState s.sizes y → value_at (slots s.sizes) 0 (s.tree f) (set (point x y) (slot_of var b) value) ≡ restricted var b value (meaning s f) x y

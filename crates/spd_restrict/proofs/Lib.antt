@@ -5,4 +5,3 @@ pub mod FixedLaws
 pub mod PrimedLaws
 pub mod ReplacedLaws
 mod Rows
-pub mod SlotLaws

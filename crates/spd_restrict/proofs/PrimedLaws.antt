@@ -5,19 +5,14 @@ use Rattle.std.proofs.lemmas.Bool.Decides.{nat_tests}
 use Rattle.spd_cons_core.specs.declared.key.Entry.{Entry}
 use Rattle.spd_nodes.specs.declared.leaf.Leaf.{Leaf}
 use Rattle.spd_nodes.specs.Levels.{levels_of, passes, after, is_first, slots, level_at, IsTestOf}
-use Rattle.spd_nodes.specs.Trees.{Tree, Ends, Tests, value_at, IsFrom, IsAt, IsReduced, CanTest, join}
-use Rattle.spd_nodes.specs.States.{IsState, point, function_of, Agree}
+use Rattle.spd_nodes.specs.Trees.{Tree, Ends, Tests, value_at, IsFrom, IsAt, IsReduced, CanTest, join, IsAtOrPast}
+use Rattle.spd_model.specs.States.{IsState}
+use Rattle.spd_nodes.specs.States.{point, function_of, Agree}
 use Rattle.spd_nodes.specs.Shown.{Shown, IsSound, IsWhole, meaning}
-use Rattle.spd_nodes.proofs.LayoutLaws.{level-primed, level-plain}
-use Rattle.spd_nodes.proofs.RankLaws.{rank-view}
-use Rattle.spd_nodes.proofs.TreeLaws.{after_above}
-use Rattle.spd_nodes.proofs.ValueLaws.{value_at-join}
 use Rattle.spd_apply.specs.declared.rule.Below.TheVariants as B
 use Rattle.spd_apply.specs.Rules.{Making, PlansBelow, PlansTest}
-use Rattle.spd_apply.specs.Halves.{Fits}
-use Rattle.spd_apply.proofs.HalfLaws.{after-next, first0, Joins, joins, IsFrom-at, IsFrom-lower}
+use Rattle.spd_nodes.proofs.CallerLemmas.{IsTreeFor, first0, after-next, Joins, joins, IsFrom-at, IsFrom-lower, Parts, parts, after_above, level-plain, level-primed, rank-view, value_at-join}
 use Rattle.spd_restrict.specs.Primed.{primed, is_plain_level, primed_level, TestsNoPrimed, primed_tree, MayPrime}
-use Rattle.spd_restrict.proofs.CofactorLaws.{Parts, parts}
 
 -- Levels in the first variable's two slots, and past them. `a` is its number of tests.
 module _ (d l : ℕ) where
@@ -164,7 +159,7 @@ module _ (sizes : List ℕ) where
     pub reduced : IsReduced ds 0 (primed_tree sizes t)
     pub whole : IsFrom ds 0 0 t → IsFrom ds 0 0 (primed_tree sizes t)
     pub from : (l : ℕ) → is_plain_level sizes l ≡ true → IsFrom ds 0 (after ds l) t → IsFrom ds 0 (after ds (primed_level sizes l)) (primed_tree sizes t)
-    pub at : (k : ℕ) → IsAt k t → Fits ds (primed_level sizes k) (primed_tree sizes t)
+    pub at : (k : ℕ) → IsAt k t → IsAtOrPast ds (primed_level sizes k) (primed_tree sizes t)
 
   plain-at : (k : ℕ) (t : Tree) → IsAt k t → TestsNoPrimed sizes t → is_plain_level sizes k ≡ true
   plain-at k (Ends a) h p = absurd h
@@ -178,7 +173,7 @@ module _ (sizes : List ℕ) where
       | inl g ↦ inl (gn.from l h g)
       | inr g ↦ (
           let j = next-primed sizes l h g.1 (plain-at (l + 1) n g.0 p) in
-          let f : Fits ds (primed_level sizes l + 1) (primed_tree sizes n) = subst (λ v. Fits ds v (primed_tree sizes n)) j.0 (gn.at (l + 1) g.0) in
+          let f : IsAtOrPast ds (primed_level sizes l + 1) (primed_tree sizes n) = subst (λ v. IsAtOrPast ds v (primed_tree sizes n)) j.0 (gn.at (l + 1) g.0) in
           elim f [ inl a ↦ inl (rw (after-next ds (primed_level sizes l) j.1) at a) | inr a ↦ inr (a, j.1) ]
           )
     ];
@@ -209,7 +204,7 @@ module _ (sizes : List ℕ) where
               | inr k ↦ IsFrom-at ds (after ds (primed_level sizes m)) (primed_level sizes l) _ b (first-primed sizes l p.0 (first0 ds l f.1)) k
             ]
             );
-        at = λ k e. subst (λ v. Fits ds (primed_level sizes v) (primed_tree sizes (Tests l y n))) e j.fits;
+        at = λ k e. subst (λ v. IsAtOrPast ds (primed_level sizes v) (primed_tree sizes (Tests l y n))) e j.fits;
       }
 
   pub value_at-primed : (t : Tree) (x y z : List ℕ) → IsState sizes x → IsState sizes y → IsState sizes z → TestsNoPrimed sizes t → value_at ds 0 (primed_tree sizes t) (point x y) ≡ value_at ds 0 t (point y z)
@@ -251,9 +246,6 @@ module _ (own : List ℕ) (s : Shown) (o : IsSound s) (f g : Entry) (kf : s.know
   abbrev may-meet : Tree → Tree → Type 0
   may-meet t u = MayPrime own s.sizes t
 
-  pub primes-leaf : (a : Leaf) → s.tree f ≡ Ends a → PlansBelow making may-meet s f g (B.Known f)
-  primes-leaf a e = record { is = rw e refl; goes = kf; smaller = omega arith }
-
   pub primed-at : (l m var v : ℕ) (b : Bool) (y n : Entry) → s.tree f ≡ Tests l (s.tree y) (s.tree n) → IsTestOf own l var b v → m ≡ level_at own var true v → m ≡ primed_level s.sizes l
   primed-at l m var v b y n e t at =
       let p : TestsNoPrimed s.sizes (Tests l (s.tree y) (s.tree n)) = subst (λ t. TestsNoPrimed s.sizes t) e may.plain in
@@ -280,11 +272,8 @@ module _ (own : List ℕ) (s : Shown) (o : IsSound s) (f g : Entry) (kf : s.know
       }
 
 module _ (own : List ℕ) (s : Shown) (o : IsSound s) (f : Entry) (kf : s.knows f ≡ true) (wf : IsWhole s f) (same : own ≡ s.sizes) (plain : TestsNoPrimed s.sizes (s.tree f)) where
-  pub prime-reduced : IsReduced (slots s.sizes) 0 (primed_tree own (s.tree f))
-  prime-reduced = rw same (good-primed s.sizes (s.tree f) (o.reduced f kf) plain).reduced
-
-  pub prime-whole : IsFrom (slots s.sizes) 0 0 (primed_tree own (s.tree f))
-  prime-whole = rw same ((good-primed s.sizes (s.tree f) (o.reduced f kf) plain).whole wf)
-
-  pub prime-value : Agree s.sizes (function_of s.sizes (primed_tree own (s.tree f))) (primed (meaning s f))
-  prime-value = rw same (record { at = λ x y i j. value_at-primed s.sizes (s.tree f) x y y i j j plain })
+  -- what is made is the tree of the function at the next state
+  pub prime-tree : IsTreeFor s (primed_tree own (s.tree f)) (primed (meaning s f))
+  prime-tree =
+      let good : GoodPrimed s.sizes (s.tree f) = good-primed s.sizes (s.tree f) (o.reduced f kf) plain in
+      rw same (record { reduced = good.reduced; whole = good.whole wf; value = record { at = λ x y i j. value_at-primed s.sizes (s.tree f) x y y i j j plain } })

@@ -4,19 +4,15 @@ use Rattle.std.specs.Prelude.{nat_lt}
 use Rattle.std.proofs.lemmas.Bool.Decides.{Decides-eqb, nat_tests}
 use Rattle.std.proofs.lemmas.List.{set-get_or}
 use Rattle.spd_nodes.specs.declared.leaf.Leaf.{Leaf}
-use Rattle.spd_nodes.specs.Levels.{passes, after, InRange}
-use Rattle.spd_nodes.specs.Trees.{Tree, Ends, Tests, value_at, IsFrom, IsAt, IsReduced, join}
-use Rattle.spd_nodes.proofs.TreeLaws.{join-same, join-differ}
-use Rattle.spd_nodes.proofs.ValueLaws.{value_at-join}
+use Rattle.spd_model.specs.States.{IsState}
+use Rattle.spd_nodes.specs.Levels.{passes, after, IsSlot}
+use Rattle.spd_nodes.specs.Trees.{Tree, Ends, Tests, value_at, IsFrom, IsAt, IsReduced, join, IsAtOrPast}
 use Rattle.spd_apply.specs.Applied.{against}
-use Rattle.spd_apply.specs.Halves.{yes_at, no_at, IsNotBefore, Fits}
-use Rattle.spd_apply.proofs.HalfLaws.{same_level, Splits, splits-fits, after-next, after_le, eq-refl, ne-false, three, first-past, first0, level_of-reduced, Joins, joins, IsFrom-at, IsFrom-lower}
-use Rattle.spd_apply.proofs.AppliedLaws.{value_at-against}
-use Rattle.spd_apply.proofs.MeetingLaws.{GoesDown, made-whole}
-use Rattle.spd_restrict.specs.Restricted.{IsSlot}
+use Rattle.spd_apply.specs.Halves.{yes_at, no_at, IsNotBefore}
+use Rattle.spd_nodes.proofs.CallerLemmas.{same_level, first0, after_le, after-next, first-past, level_of-reduced, Joins, joins, IsFrom-at, IsFrom-lower, Parts, parts, after-in, after-before, first-is, passes-in, join-differ, join-same, value_at-join}
+use Rattle.std.proofs.lemmas.Bool.{cases_order, ne_eqb}
+use Rattle.spd_apply.proofs.CallerLemmas.{GoesDown, Splits, eq-refl, made-whole, splits-fits, value_at-against}
 use Rattle.spd_restrict.specs.Replaced.{replaced_after, down_to, replaced, IsWholeFrom}
-use Rattle.spd_restrict.proofs.CofactorLaws.{Parts, parts}
-use Rattle.spd_restrict.proofs.SlotLaws.{after-in, after-before, first-is, passes-in}
 
 -- the leaf of a half is the tree's leaf, where the test holds or doesn't
 value-yes : (ds : List ℕ) (l : ℕ) (t : Tree) (p : List ℕ) → passes ds l p ≡ true → value_at ds 0 (yes_at l t) p ≡ value_at ds 0 t p
@@ -41,11 +37,11 @@ value-no ds l (Tests k y n) p h = go (k == l) refl
 
 module _ (ds : List ℕ) (slot first end : ℕ) (s : IsSlot ds slot first end) where
   -- a point in range passes the tests of its own value alone
-  passes-slot : (l : ℕ) (p : List ℕ) → first ≤ l → l < end → InRange ds p → passes ds l p ≡ (get_or p slot 0 == l - first)
+  passes-slot : (l : ℕ) (p : List ℕ) → first ≤ l → l < end → IsState ds p → passes ds l p ≡ (get_or p slot 0 == l - first)
   passes-slot l p g h i =
       ap (passes ds l) (sym (set-get_or p slot 0)) ∙ passes-in ds slot first end l (get_or p slot 0) p s g h i
 
-  module _ (value : ℕ) (p : List ℕ) (i : InRange ds p) where
+  module _ (value : ℕ) (p : List ℕ) (i : IsState ds p) where
     -- one of two leaves, by whether the point's value in the slot is this one
     abbrev picks : Leaf → Leaf → Leaf
     picks a b = cond (get_or p slot 0 == value) a b
@@ -79,7 +75,7 @@ module _ (ds : List ℕ) (slot first end : ℕ) (s : IsSlot ds slot first end) w
             → cond (passes ds (l - 0) p) (value_at ds 0 (yes_at l u) p) (value_at ds 0 (replaced_after n (l + 1) (no_at l t) (no_at l u)) p) ≡ picks (value_at ds 0 t p) (value_at ds 0 u p)
         go true q j =
             let k : get_or p slot 0 ≡ l - first = (Decides-eqb (get_or p slot 0) (l - first)).0 (sym is ∙ q) in
-            let r : (get_or p slot 0 == value) ≡ false = ne-false (get_or p slot 0) value (omega arith) in
+            let r : (get_or p slot 0 == value) ≡ false = ne_eqb (get_or p slot 0) value (omega arith) in
             rw (z, q, r) (value-yes ds l u p q)
         go false q j = rw (z, q) (j ∙ rw (value-no ds l t p q, value-no ds l u p q) refl)
 
@@ -109,7 +105,7 @@ module _ (ds : List ℕ) (slot first end : ℕ) (s : IsSlot ds slot first end) w
         on false iy jn = value_at-down_to (replaced_after value first (Tests k y n)) (value_at ds 0 (Tests k y n) p)
             (λ v. value_at-replaced_after value first (Tests k y n) v (omega arith) (omega arith) (omega arith)) u
 
-pub fits-next : (ds : List ℕ) (l : ℕ) (t : Tree) → l + 1 < after ds l → Splits ds l t → Fits ds (l + 1) (no_at l t)
+pub fits-next : (ds : List ℕ) (l : ℕ) (t : Tree) → l + 1 < after ds l → Splits ds l t → IsAtOrPast ds (l + 1) (no_at l t)
 fits-next ds l t h s = elim s.no_fits [ inl f ↦ inl (rw (after-next ds l h) f) | inr f ↦ inr f.0 ]
 
 -- a test of a tree's halves is the tree
@@ -122,7 +118,7 @@ itself-join ds l (Tests k y n) r = go (k == l) refl
     go false e = join-same l (Tests k y n)
 
 -- at a slot's test it may be such a test's child
-pub joins-replaced_after : (ds : List ℕ) (n l : ℕ) (t u : Tree) → l + n < after ds l → IsReduced ds 0 t → IsReduced ds 0 u → Fits ds l t → Fits ds l u → Joins ds l (replaced_after n l t u)
+pub joins-replaced_after : (ds : List ℕ) (n l : ℕ) (t u : Tree) → l + n < after ds l → IsReduced ds 0 t → IsReduced ds 0 u → IsAtOrPast ds l t → IsAtOrPast ds l u → Joins ds l (replaced_after n l t u)
 joins-replaced_after ds zero l t u h r s f g =
     let a : Splits ds l t = splits-fits ds l t (omega arith) r f in
     let b : Splits ds l u = splits-fits ds l u (omega arith) s g in
@@ -197,14 +193,14 @@ module _ (first value : ℕ) where
   replaced-bottom (Tests k y n) u f g = let a : nat_lt k first ≡ false = grind (arith, nat_tests) in rw a (at-right (replaced_after value first (Tests k y n)) u g)
 
 -- a whole tree that isn't before a slot tests the slot first, or is past it
-pub fits-first : (ds : List ℕ) (first : ℕ) (t : Tree) → IsReduced ds 0 t → IsNotBefore first t → IsWholeFrom ds first t → Fits ds first t
+pub fits-first : (ds : List ℕ) (first : ℕ) (t : Tree) → IsReduced ds 0 t → IsNotBefore first t → IsWholeFrom ds first t → IsAtOrPast ds first t
 fits-first ds first (Ends a) r h f = inl tt
-fits-first ds first (Tests k y n) r h f = go (three k first)
+fits-first ds first (Tests k y n) r h f = go (cases_order k first)
   where
     e : k - 0 ≡ k
     e = omega arith
 
-    go : (k ≡ first) ⊎ (k < first) ⊎ (first < k) → Fits ds first (Tests k y n)
+    go : (k ≡ first) ⊎ (k < first) ⊎ (first < k) → IsAtOrPast ds first (Tests k y n)
     go (inl g) = inr g
     go (inr (inl g)) = absurd (omega arith)
     go (inr (inr g)) = inl (first-past ds first k g (f h) (level_of-reduced ds k y n r), rw e (f h))
@@ -246,11 +242,11 @@ module _ (ds : List ℕ) (slot first end : ℕ) (s : IsSlot ds slot first end) (
 
   -- at the slot two whole trees have its tests
   pub can-replace : (t u : Tree) → IsReduced ds 0 t → IsReduced ds 0 u → IsNotBefore first t → IsNotBefore first u → IsWholeFrom ds first t → IsWholeFrom ds first u
-      → (first + value < after ds first) × Fits ds first t × Fits ds first u
+      → (first + value < after ds first) × IsAtOrPast ds first t × IsAtOrPast ds first u
   can-replace t u r q f g i j = (room, fits-first ds first t r f i, fits-first ds first u q g j)
 
   -- a tree in its own place at a slot's test is itself
-  itself-after : (n l : ℕ) (t : Tree) → l + n < after ds l → IsReduced ds 0 t → Fits ds l t → replaced_after n l t t ≡ t
+  itself-after : (n l : ℕ) (t : Tree) → l + n < after ds l → IsReduced ds 0 t → IsAtOrPast ds l t → replaced_after n l t t ≡ t
   itself-after zero l t i r f = itself-join ds l t r
   itself-after (suc n) l t i r f =
       let a : Splits ds l t = splits-fits ds l t (omega arith) r f in
@@ -261,7 +257,7 @@ module _ (ds : List ℕ) (slot first end : ℕ) (s : IsSlot ds slot first end) (
   -- and so is a tree in its own place
   pub replaced-itself : (t : Tree) → IsReduced ds 0 t → IsWholeFrom ds first t → replaced first value t t ≡ t
   replaced-itself (Ends a) r w = itself-after value first (Ends a) room r (inl tt)
-  replaced-itself (Tests k y n) r w = go (three k first) (λ v. replaced-itself y q.yes_reduced v) (λ v. replaced-itself n q.no_reduced v)
+  replaced-itself (Tests k y n) r w = go (cases_order k first) (λ v. replaced-itself y q.yes_reduced v) (λ v. replaced-itself n q.no_reduced v)
     where
       q : Parts ds k y n
       q = parts ds k y n r

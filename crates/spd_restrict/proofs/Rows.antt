@@ -4,16 +4,16 @@ use Rattle.spd_nodes.specs.declared.leaf.Leaf.TheVariants.{Num}
 use Rattle.spd_nodes.specs.Refs.{node_count}
 use Rattle.spd_nodes.specs.States.{Function, test_tree}
 use Rattle.spd_nodes.specs.Trees.{Ends, Tests}
-use Rattle.spd_restrict.specs.Chosen.{chosen, chosen_from, value_of}
+use Rattle.spd_restrict.specs.Chosen.{chosen, chosen_from, variable_value}
 use Rattle.spd_restrict.specs.Primed.{primed}
 use Rattle.spd_restrict.specs.Restricted.{restricted}
 
 -- 1 where x has its first value, else 0; likewise y; and their sum
 abbrev f : Function
-f s t = cond (value_of 0 false s t == 0) (Num (pos 1)) (Num (pos 0))
+f s t = cond (variable_value 0 false s t == 0) (Num (pos 1)) (Num (pos 0))
 
 abbrev g : Function
-g s t = cond (value_of 1 false s t == 0) (Num (pos 1)) (Num (pos 0))
+g s t = cond (variable_value 1 false s t == 0) (Num (pos 1)) (Num (pos 0))
 
 abbrev zero : Function
 zero s t = Num (pos 0)

@@ -5,8 +5,8 @@ use Rattle.spd_nodes.specs.declared.leaf.Leaf.TheVariants.{Act}
 use Rattle.spd_nodes.specs.States.{Function}
 
 -- a variable's value at the next state (primed) or at the present one
-abbrev pub value_of : ℕ → Bool → List ℕ → List ℕ → ℕ
-value_of var primed s t = slice_index (cond primed t s) var
+abbrev pub variable_value : ℕ → Bool → List ℕ → List ℕ → ℕ
+variable_value var primed s t = slice_index (cond primed t s) var
 
 -- the function with a number
 abbrev pub function_at : List Function → ℕ → Function
@@ -14,11 +14,11 @@ function_at fs i = slice_index_or fs i (λ s t. Act 0)
 
 -- at each state the function with the number of the variable's value
 abbrev pub chosen : ℕ → Bool → List Function → Function
-chosen var primed fs s t = function_at fs (value_of var primed s t) s t
+chosen var primed fs s t = function_at fs (variable_value var primed s t) s t
 
 -- the same where the value is at least `least`; elsewhere the last function
 abbrev pub chosen_from : ℕ → ℕ → Bool → List Function → Function
-chosen_from least var primed fs s t = cond (nat_lt (value_of var primed s t) least) (function_at fs (length fs - 1) s t) (chosen var primed fs s t)
+chosen_from least var primed fs s t = cond (nat_lt (variable_value var primed s t) least) (function_at fs (length fs - 1) s t) (chosen var primed fs s t)
 
 -- The functions of a branch on a variable, one for each value from the last to the first: the last one is the branch.
 abbrev pub chosen_below : ℕ → ℕ → Bool → List Function → List Function

@@ -1,17 +1,16 @@
 -- A diagram with another one in its place at one value of a variable: the function, the tree, and which trees may meet.
 use Rattle.std.specs.Prelude.{◌≡◌, ℕ, ◌+◌, ◌<◌, ◌≤◌, ◌==◌, Bool, true, cond, nat_lt, List}
 use Rattle.std.proofs.Common.{zero, suc}
-use Rattle.spd_nodes.specs.Levels.{after, is_first, slots}
-use Rattle.spd_nodes.specs.Trees.{Tree, Ends, Tests, join}
+use Rattle.spd_nodes.specs.Levels.{after, is_first, slots, IsSlot}
+use Rattle.spd_nodes.specs.Trees.{Tree, Ends, Tests, join, IsAtOrPast}
 use Rattle.spd_nodes.specs.States.{Function}
 use Rattle.spd_apply.specs.Applied.{against}
-use Rattle.spd_apply.specs.Halves.{yes_at, no_at, IsNotBefore, Fits, IsAligned}
-use Rattle.spd_restrict.specs.Chosen.{value_of}
-use Rattle.spd_restrict.specs.Restricted.{IsSlot}
+use Rattle.spd_apply.specs.Halves.{yes_at, no_at, IsNotBefore, IsAligned}
+use Rattle.spd_restrict.specs.Chosen.{variable_value}
 
 -- one function at one value of a variable, and another one elsewhere
 abbrev pub replaced_at : ℕ → Bool → ℕ → Function → Function → Function
-replaced_at var primed value f g s t = cond (value_of var primed s t == value) (f s t) (g s t)
+replaced_at var primed value f g s t = cond (variable_value var primed s t == value) (f s t) (g s t)
 
 -- at a slot: the second tree, with the first one in its place after so many tests from a level on
 abbrev pub replaced_after : ℕ → ℕ → Tree → Tree → Tree
@@ -52,5 +51,5 @@ pub record MeetAt (first : ℕ) (t u : Tree) : Type 0 where
 -- two trees at a slot's test, with so many tests from it to the value's own one
 pub record CanReplace (before l : ℕ) (sizes : List ℕ) (t u : Tree) : Type 0 where
   pub within : l + before < after (slots sizes) l
-  pub left : Fits (slots sizes) l t
-  pub right : Fits (slots sizes) l u
+  pub left : IsAtOrPast (slots sizes) l t
+  pub right : IsAtOrPast (slots sizes) l u

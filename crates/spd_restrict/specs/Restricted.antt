@@ -1,6 +1,6 @@
 -- A function with one value held fixed, and a tree with one slot at a value.
 use Rattle.std.specs.Prelude.{◌≡◌, ℕ, ◌+◌, ◌-◌, ◌<◌, ◌≤◌, ◌==◌, Bool, cond, nat_lt, List, slice_set, slice_index, length, take}
-use Rattle.spd_nodes.specs.Levels.{levels_of, slots}
+use Rattle.spd_nodes.specs.Levels.{slots, IsSlot}
 use Rattle.spd_nodes.specs.Trees.{Tree, Ends, Tests, join}
 use Rattle.spd_nodes.specs.States.{Function}
 
@@ -14,12 +14,6 @@ cofactored first end value (Ends a) = Ends a
 cofactored first end value (Tests l y n) =
     cond (nat_lt l first) (join l (cofactored first end value y) (cofactored first end value n))
     (cond (nat_lt l end) (cond (l == first + value) y (cofactored first end value n)) (Tests l y n))
-
--- a slot's tests are the levels from `first` to below `end`
-pub record IsSlot (ds : List ℕ) (slot first end : ℕ) : Type 0 where
-  pub slot_in : slot < length ds
-  pub first_is : first ≡ levels_of (take slot ds)
-  pub end_is : end ≡ first + (slice_index ds slot - 1)
 
 -- where the root tests the slot, its value isn't above this one
 abbrev pub IsUpTo : ℕ → ℕ → ℕ → Tree → Type 0

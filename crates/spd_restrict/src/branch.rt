@@ -1,11 +1,17 @@
-ghost use Rattle.std.specs.Prelude.{◌≡◌, ℕ, ◌+◌, ◌-◌, ◌<◌, ◌≤◌, [], ◌∷◌, IfOk, IfErr, All, true, length, map, slice_index};
+//! A branch: a diagram for each value of a variable, put together.
+
+ghost use Rattle.std.specs.Prelude.{◌≡◌, ℕ, ◌+◌, ◌-◌, ◌<◌, ◌≤◌, All, true, length, map, slice_index};
 ghost use Rattle.spd_nodes.specs.Levels.{levels_of, slots};
-ghost use Rattle.spd_nodes.specs.Shown.{Shown, IsSound, Grows, IsWhole, KnowsAs, MakesOnly, Faults, StandsFor, MakesNodesOf, FaultsAt, meaning};
-ghost use Rattle.spd_restrict.specs.Chosen.{branch_functions, chosen, chosen_from, chosen_below};
+ghost use Rattle.spd_nodes.specs.Shown.{Shown, IsSound, IsWhole, MakesTree, MakesDiagram, MakesAmong, meaning};
+ghost use Rattle.spd_apply.specs.Rules.{IsNodeAt};
+ghost use Rattle.spd_apply.specs.Views.{next_no};
+ghost use Rattle.spd_restrict.specs.Chosen.{branch_functions, chosen, chosen_from};
 ghost use Rattle.spd_restrict.specs.Replaced.{replaced, replaced_after, replaced_at, MayReplace, MeetAt, CanReplace};
 
-use spd_apply::{Below, OpFault, Plan, Rule, halves, lower_level, make_alone};
-use spd_nodes::{Forest, Level, Ref, Steps};
+use spd_apply::{
+    Below, Descent, Node, OpFault, Plan, halves, lower_level, make_alone, test_of_halves,
+};
+use spd_nodes::{Forest, Level, Ref, Steps, View};
 use std::alloc::Global;
 use std::sync::ledger::Ledger;
 
@@ -17,60 +23,71 @@ struct AtOneValue {
     value: u16,
 }
 
+/// Where a diagram goes on if a level's test doesn't hold, with its root, which is viewed if it wasn't.
+fn no_half<F: Forest>(forest: &mut F, f: Node, at: Level) -> Node
+    requires { IsNodeAt (F.shows forest.old) f }
+    ensures same { F.shows forest.new ≡ F.shows forest.old }
+    ensures keeps { F.kept forest.new ≡ F.kept forest.old }
+    ensures name { result.name ≡ next_no f.root f.name at }
+    ensures root { IsNodeAt (F.shows forest.old) result }
+{
+    match f.root {
+        View::Test { level, no, .. } if level.0 == at.0 => Node {
+            name: no,
+            root: forest.view(no),
+        },
+        _ => f,
+    }
+}
+
 /// The test of a level and those after it in its slot, of which `before` come before the value's own one: the second
 /// diagram's children, but the first one's where the value's test holds. Calls nest at most 64 deep.
 fn replace_after<F: Forest, L: Ledger>(
     forest: &mut F,
     before: u16,
     level: Level,
-    f: Ref,
-    g: Ref,
+    f: Node,
+    g: Node,
     steps: &mut Steps<L>,
 ) -> Result<Ref, OpFault>
-    requires left { (F.shows forest.old).knows f ≡ true }
-    requires right { (F.shows forest.old).knows g ≡ true }
-    requires can { CanReplace before level.0 (F.shows forest.old).sizes ((F.shows forest.old).tree f) ((F.shows forest.old).tree g) }
-    ensures sound { IsSound (F.shows forest.new) }
-    ensures grows { Grows (F.shows forest.old) (F.shows forest.new) }
+    requires sound { IsSound (F.shows forest.old) }
+    requires left { IsNodeAt (F.shows forest.old) f }
+    requires right { IsNodeAt (F.shows forest.old) g }
+    requires can { CanReplace before level.0 (F.shows forest.old).sizes ((F.shows forest.old).tree f.name) ((F.shows forest.old).tree g.name) }
+    ensures made { MakesTree (F.shows forest.old) (F.shows forest.new) (replaced_after before level.0 ((F.shows forest.old).tree f.name) ((F.shows forest.old).tree g.name)) result }
     ensures keeps { F.kept forest.new ≡ F.kept forest.old }
-    ensures ok { IfOk result (λ r. KnowsAs (F.shows forest.new) r (replaced_after before level.0 ((F.shows forest.old).tree f) ((F.shows forest.old).tree g))) }
-    ensures makes { MakesOnly (F.shows forest.old) (F.shows forest.new) (replaced_after before level.0 ((F.shows forest.old).tree f) ((F.shows forest.old).tree g) ∷ []) }
-    ensures fault { IfErr result (λ e. Faults e (F.shows forest.new) (replaced_after before level.0 ((F.shows forest.old).tree f) ((F.shows forest.old).tree g) ∷ [])) }
 {
-    let f_view = forest.view(f);
-    let g_view = forest.view(g);
-    let (f_yes, f_no) = halves(f_view, f, level);
-    let (g_yes, g_no) = halves(g_view, g, level);
+    let (f_yes, _) = halves(f, level);
+    let (g_yes, g_no) = halves(g, level);
     if before == 0 {
         return forest.test(level, f_yes, g_no, steps);
     }
-    let rest = replace_after(forest, before - 1, Level(level.0 + 1), f_no, g_no, steps)?;
+    let f_rest = no_half(forest, f, level);
+    let g_rest = no_half(forest, g, level);
+    let rest = replace_after(
+        forest,
+        before - 1,
+        Level(level.0 + 1),
+        f_rest,
+        g_rest,
+        steps,
+    )?;
     forest.test(level, g_yes, rest, steps)
 }
 
-impl Rule for AtOneValue {
+impl Descent for AtOneValue {
     ghost making = { λ r t u. replaced r.first r.value t u };
 
     ghost may = { λ r sizes t u. MayReplace r.first r.value sizes t u };
 
     ghost ends = { λ r sizes t u. MeetAt r.first t u };
 
-    fn plan<F: Forest>(&self, forest: &mut F, f: Ref, g: Ref) -> Plan {
-        if f == g {
-            return Plan::Below(Below::Known(f));
+    fn plan<F: Forest>(&self, _forest: &F, f: Node, g: Node) -> Plan {
+        if f.name == g.name {
+            return Plan::Below(Below::Known(f.name));
         }
-        let a = forest.view(f);
-        let b = forest.view(g);
-        match lower_level(a, b) {
-            Some(level) if level.0 < self.first => {
-                let (f_yes, f_no) = halves(a, f, level);
-                let (g_yes, g_no) = halves(b, g, level);
-                Plan::Test {
-                    level,
-                    yes: Below::Pair(f_yes, g_yes),
-                    no: Below::Pair(f_no, g_no),
-                }
-            }
+        match lower_level(f.root, g.root) {
+            Some(level) if level.0 < self.first => test_of_halves(level, f, g),
             _ => Plan::Bottom,
         }
     }
@@ -78,8 +95,8 @@ impl Rule for AtOneValue {
     fn bottom<F: Forest, L: Ledger>(
         &self,
         forest: &mut F,
-        f: Ref,
-        g: Ref,
+        f: Node,
+        g: Node,
         steps: &mut Steps<L>,
     ) -> Result<Ref, OpFault> {
         replace_after(forest, self.value, Level(self.first), f, g, steps)
@@ -104,12 +121,8 @@ fn replace<F: Forest, L: Ledger>(
     requires right_whole { IsWhole (F.shows forest.old) g }
     requires var { var < length (F.shows forest.old).sizes }
     requires value { value + 1 < slice_index (F.shows forest.old).sizes var }
-    ensures sound { IsSound (F.shows forest.new) }
-    ensures grows { Grows (F.shows forest.old) (F.shows forest.new) }
+    ensures made { MakesDiagram (F.shows forest.old) (F.shows forest.new) (replaced_at var primed value (meaning (F.shows forest.old) f) (meaning (F.shows forest.old) g)) result }
     ensures keeps { F.kept forest.new ≡ F.kept forest.old }
-    ensures ok { IfOk result (λ r. StandsFor (F.shows forest.new) r (replaced_at var primed value (meaning (F.shows forest.old) f) (meaning (F.shows forest.old) g))) }
-    ensures makes { MakesNodesOf (F.shows forest.old) (F.shows forest.new) (replaced_at var primed value (meaning (F.shows forest.old) f) (meaning (F.shows forest.old) g) ∷ []) }
-    ensures fault { IfErr result (λ e. FaultsAt e (F.shows forest.new) (replaced_at var primed value (meaning (F.shows forest.old) f) (meaning (F.shows forest.old) g) ∷ [])) }
 {
     let (first, _) = forest.layout().tests(var, primed);
     let rule = AtOneValue {
@@ -134,12 +147,8 @@ fn choose_from<F: Forest, L: Ledger>(
     requires var { var < length (F.shows forest.old).sizes }
     requires count { length kids.now ≡ slice_index (F.shows forest.old).sizes var }
     requires value { value < length kids.now }
-    ensures sound { IsSound (F.shows forest.new) }
-    ensures grows { Grows (F.shows forest.old) (F.shows forest.new) }
+    ensures made { MakesAmong (F.shows forest.old) (F.shows forest.new) (chosen_from value var primed (map (meaning (F.shows forest.old)) kids.now)) (branch_functions var primed (map (meaning (F.shows forest.old)) kids.now)) result }
     ensures keeps { F.kept forest.new ≡ F.kept forest.old }
-    ensures ok { IfOk result (λ r. StandsFor (F.shows forest.new) r (chosen_from value var primed (map (meaning (F.shows forest.old)) kids.now))) }
-    ensures makes { MakesNodesOf (F.shows forest.old) (F.shows forest.new) (branch_functions var primed (map (meaning (F.shows forest.old)) kids.now)) }
-    ensures fault { IfErr result (λ e. FaultsAt e (F.shows forest.new) (branch_functions var primed (map (meaning (F.shows forest.old)) kids.now))) }
 {
     let _ = forest.layout();
     let kid = kids[value];
@@ -169,12 +178,8 @@ pub fn choose<F: Forest, L: Ledger>(
     requires var { var < length (F.shows forest.old).sizes }
     requires count { length kids.now ≡ slice_index (F.shows forest.old).sizes var }
 
-    ensures sound { IsSound (F.shows forest.new) }
-    ensures grows { Grows (F.shows forest.old) (F.shows forest.new) }
+    ensures made { MakesAmong (F.shows forest.old) (F.shows forest.new) (chosen var primed (map (meaning (F.shows forest.old)) kids.now)) (branch_functions var primed (map (meaning (F.shows forest.old)) kids.now)) result }
     ensures keeps { F.kept forest.new ≡ F.kept forest.old }
-    ensures ok { IfOk result (λ r. StandsFor (F.shows forest.new) r (chosen var primed (map (meaning (F.shows forest.old)) kids.now))) }
-    ensures makes { MakesNodesOf (F.shows forest.old) (F.shows forest.new) (branch_functions var primed (map (meaning (F.shows forest.old)) kids.now)) }
-    ensures fault { IfErr result (λ e. FaultsAt e (F.shows forest.new) (branch_functions var primed (map (meaning (F.shows forest.old)) kids.now))) }
 {
     let _ = forest.layout();
     choose_from(alloc, forest, var, primed, kids, 0, steps)

@@ -1,8 +1,10 @@
-ghost use Rattle.std.specs.Prelude.{◌≡◌, ℕ, ◌<◌, [], ◌∷◌, IfOk, IfErr, true, length, slice_index};
-ghost use Rattle.spd_nodes.specs.Shown.{Shown, IsSound, Grows, IsWhole, StandsFor, MakesNodesOf, FaultsAt, meaning};
+//! A diagram with a variable's value held fixed.
+
+ghost use Rattle.std.specs.Prelude.{◌≡◌, ℕ, ◌<◌, true, length, slice_index};
+ghost use Rattle.spd_nodes.specs.Shown.{Shown, IsWhole, MakesDiagram, meaning};
 ghost use Rattle.spd_restrict.specs.Restricted.{restricted, cofactored, MayRestrict};
 
-use spd_apply::{Below, OpFault, Plan, Rule, make_alone};
+use spd_apply::{Below, Node, OpFault, Plan, Rule, make_alone};
 use spd_nodes::{Forest, Ref, Steps, View};
 use std::alloc::Global;
 use std::sync::ledger::Ledger;
@@ -21,11 +23,9 @@ impl Rule for AtValue {
 
     ghost may = { λ r sizes t u. MayRestrict r.first r.end r.value sizes t };
 
-    ghost ends = { λ r sizes t u. cofactored r.first r.end r.value t ≡ t };
-
-    fn plan<F: Forest>(&self, forest: &mut F, f: Ref, g: Ref) -> Plan {
-        match forest.view(f) {
-            View::Leaf(_) => Plan::Bottom,
+    fn plan<F: Forest>(&self, _forest: &F, f: Node, _g: Node) -> Plan {
+        match f.root {
+            View::Leaf(_) => Plan::Below(Below::Known(f.name)),
             View::Test { level, yes, no } => {
                 if level.0 < self.first {
                     Plan::Test {
@@ -34,7 +34,7 @@ impl Rule for AtValue {
                         no: Below::Pair(no, no),
                     }
                 } else if level.0 >= self.end {
-                    Plan::Bottom
+                    Plan::Below(Below::Known(f.name))
                 } else if level.0 == self.first + self.value {
                     Plan::Below(Below::Known(yes))
                 } else {
@@ -42,16 +42,6 @@ impl Rule for AtValue {
                 }
             }
         }
-    }
-
-    fn bottom<F: Forest, L: Ledger>(
-        &self,
-        forest: &mut F,
-        f: Ref,
-        g: Ref,
-        steps: &mut Steps<L>,
-    ) -> Result<Ref, OpFault> {
-        Ok(f)
     }
 }
 
@@ -72,12 +62,8 @@ pub fn cofactor<F: Forest, L: Ledger>(
     requires var { var < length (F.shows forest.old).sizes }
     requires value { value < slice_index (F.shows forest.old).sizes var }
 
-    ensures sound { IsSound (F.shows forest.new) }
-    ensures grows { Grows (F.shows forest.old) (F.shows forest.new) }
+    ensures made { MakesDiagram (F.shows forest.old) (F.shows forest.new) (restricted var primed value (meaning (F.shows forest.old) f)) result }
     ensures keeps { F.kept forest.new ≡ F.kept forest.old }
-    ensures ok { IfOk result (λ r. StandsFor (F.shows forest.new) r (restricted var primed value (meaning (F.shows forest.old) f))) }
-    ensures makes { MakesNodesOf (F.shows forest.old) (F.shows forest.new) (restricted var primed value (meaning (F.shows forest.old) f) ∷ []) }
-    ensures fault { IfErr result (λ e. FaultsAt e (F.shows forest.new) (restricted var primed value (meaning (F.shows forest.old) f) ∷ [])) }
 {
     let (first, end) = forest.layout().tests(var, primed);
     let rule = AtValue {

@@ -1,8 +1,10 @@
-ghost use Rattle.std.specs.Prelude.{◌≡◌, ℕ, ◌<◌, [], ◌∷◌, IfOk, IfErr, true};
-ghost use Rattle.spd_nodes.specs.Shown.{Shown, IsSound, Grows, IsWhole, StandsFor, MakesNodesOf, FaultsAt, meaning};
+//! A diagram with its plain names primed.
+
+ghost use Rattle.std.specs.Prelude.{◌≡◌, ℕ, ◌<◌, true};
+ghost use Rattle.spd_nodes.specs.Shown.{Shown, IsWhole, MakesDiagram, meaning};
 ghost use Rattle.spd_restrict.specs.Primed.{primed, primed_tree, MayPrime, TestsNoPrimed};
 
-use spd_apply::{Below, OpFault, Plan, Rule, make_alone};
+use spd_apply::{Below, Node, OpFault, Plan, Rule, make_alone};
 use spd_nodes::{Forest, Layout, Ref, Steps, View};
 use std::alloc::Global;
 use std::sync::ledger::Ledger;
@@ -18,11 +20,9 @@ impl Rule for Priming {
 
     ghost may = { λ r sizes t u. MayPrime r.layout sizes t };
 
-    ghost ends = { λ r sizes t u. primed_tree r.layout t ≡ t };
-
-    fn plan<F: Forest>(&self, forest: &mut F, f: Ref, g: Ref) -> Plan {
-        match forest.view(f) {
-            View::Leaf(_) => Plan::Bottom,
+    fn plan<F: Forest>(&self, _forest: &F, f: Node, _g: Node) -> Plan {
+        match f.root {
+            View::Leaf(_) => Plan::Below(Below::Known(f.name)),
             View::Test { level, yes, no } => {
                 let (var, _, value) = self.layout.what(level);
                 Plan::Test {
@@ -32,16 +32,6 @@ impl Rule for Priming {
                 }
             }
         }
-    }
-
-    fn bottom<F: Forest, L: Ledger>(
-        &self,
-        forest: &mut F,
-        f: Ref,
-        g: Ref,
-        steps: &mut Steps<L>,
-    ) -> Result<Ref, OpFault> {
-        Ok(f)
     }
 }
 
@@ -58,12 +48,8 @@ pub fn prime<F: Forest, L: Ledger>(
     requires whole { IsWhole (F.shows forest.old) f }
     requires plain { TestsNoPrimed (F.shows forest.old).sizes ((F.shows forest.old).tree f) }
 
-    ensures sound { IsSound (F.shows forest.new) }
-    ensures grows { Grows (F.shows forest.old) (F.shows forest.new) }
+    ensures made { MakesDiagram (F.shows forest.old) (F.shows forest.new) (primed (meaning (F.shows forest.old) f)) result }
     ensures keeps { F.kept forest.new ≡ F.kept forest.old }
-    ensures ok { IfOk result (λ r. StandsFor (F.shows forest.new) r (primed (meaning (F.shows forest.old) f))) }
-    ensures makes { MakesNodesOf (F.shows forest.old) (F.shows forest.new) (primed (meaning (F.shows forest.old) f) ∷ []) }
-    ensures fault { IfErr result (λ e. FaultsAt e (F.shows forest.new) (primed (meaning (F.shows forest.old) f) ∷ [])) }
 {
     match Layout::new(alloc, forest.layout().sizes()) {
         Ok(layout) => make_alone(alloc, forest, &Priming { layout }, f, f, steps),

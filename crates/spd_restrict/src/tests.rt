@@ -1,3 +1,5 @@
+//! Each restriction once.
+
 ghost use Rattle.std.specs.Prelude.{◌≡◌, ℕ, ◌<◌, ◌∷◌, []};
 
 use crate::fixed::cofactor;

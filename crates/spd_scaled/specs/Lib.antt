@@ -1,2 +1,4 @@
 pub mod Scaled
 pub mod Units
+pub mod Decimal
+pub mod DecimalReading

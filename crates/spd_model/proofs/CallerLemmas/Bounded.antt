@@ -15,11 +15,11 @@ use Rattle.spd_model.specs.declared.process.Action.{Action}
 use Rattle.spd_model.specs.Process.{Process}
 use Rattle.spd_model.specs.Lawful.{IsLawful}
 use Rattle.spd_model.specs.Numbers.{sum_below, greatest}
-use Rattle.spd_model.specs.States.{sizes, states, table_of, at, rank, IsState}
+use Rattle.spd_model.specs.States.{sizes, table_of, at, rank, IsState}
 use Rattle.spd_model.specs.Chances.{one, discount_one, probability, reward_of, reward_limit, IsValid}
 use Rattle.spd_model.specs.Backup.{Rounding, expected_by, expectation, return_of, best_low, best_high}
 use Rattle.spd_model.specs.Ranges.{Range, is_same, is_before, with_range, in_order, Group, group_of, joined, groups_from, groups_of, middle_of, value_in, merged}
-use Rattle.spd_model.specs.Turns.{start_of, ranges_of, next_of, turn, value_limit, IsBounded, gap_above, gap_below, residual_of}
+use Rattle.spd_model.specs.Turns.{start_of, ranges_of, turn, value_limit, IsBounded, gap_above, gap_below, residual_of}
 use Rattle.spd_model.proofs.CallerLemmas.Sums.{sum_below_within}
 use Rattle.spd_model.proofs.CallerLemmas.Greatest.{max_within, fold-int_max_within, greatest_within}
 use Rattle.spd_model.proofs.CallerLemmas.StateOrder.{All-table_of, IsState-drop, IsState-none, length-sizes}

@@ -1,5 +1,5 @@
 -- The residual is one of the gaps of some state, and bounds the gaps at each state.
-use Rattle.std.proofs.Common.{◌≡◌, ◌⊎◌, inl, inr, ℕ, zero, suc, ◌<◌, ◌≤◌, Bool, true, false, ◌||◌, List, [], ◌∷◌, length, map, drop, get_or, slice_index, All, Contains, ℤ, pos, ◌-ℤ◌, ◌≤ℤ◌, ◌<ℤ◌, int_lt, cond, refl, ap, sym, ◌∙◌, subst, arith}
+use Rattle.std.proofs.Common.{◌≡◌, ◌⊎◌, inl, inr, ℕ, zero, suc, ◌<◌, ◌≤◌, Bool, true, false, ◌||◌, List, [], ◌∷◌, length, map, drop, get_or, slice_index, All, Contains, ℤ, pos, ◌≤ℤ◌, ◌<ℤ◌, int_lt, cond, refl, ap, sym, ◌∙◌, subst, arith}
 use Rattle.std.specs.Prelude.{slice_get, Some, option_map}
 use Rattle.std.specs.Int.{int_max}
 use Rattle.std.specs.Ordering.{int_eq}
@@ -18,6 +18,7 @@ use Rattle.spd_model.specs.States.{sizes, states, IsState, table_of}
 use Rattle.spd_model.specs.Chances.{one, discount_one, probability, IsValid}
 use Rattle.spd_model.specs.Backup.{expected_by, low_of, high_of, best_low, best_high, policy_of}
 use Rattle.spd_model.specs.Turns.{gap_above, gap_below, residual_of}
+use Rattle.spd_model.proofs.CallerLemmas.Lists.{Contains-map}
 use Rattle.spd_model.proofs.CallerLemmas.Sums.{sum_below_mono}
 use Rattle.spd_model.proofs.CallerLemmas.Greatest.{greatest_ordered, greatest_at_least, greatest_reached, first_place_reads}
 use Rattle.spd_model.proofs.CallerLemmas.StateOrder.{IsState-get_or, IsState-drop, IsState-none, length-states, length-sizes, All-table_of_back}
@@ -93,9 +94,6 @@ module _ (m : Process) (valid : IsValid m) (w : List ℕ → ℤ) where
         false≢true (sym (none at.0 [] at.1) ∙ gap_found r (gap_above m w s) (gap_below m w s) at.2)
 
 -- ---- the policy, and the gaps at each state
-
-Contains-map : {X Y : Type 0} (f : X → Y) (xs : List X) (x : X) → Contains xs x → Contains (map f xs) (f x)
-Contains-map f xs x there = (there.0, omega (arith, length-map xs f, there.1), get_or-map f xs there.0 x (f x) there.1 ∙ ap f there.2)
 
 module _ (m : Process) (w : List ℕ → ℤ) where
   pub gap_at_most : (s : List ℕ) → IsState (sizes m) s → gap_at m w s ≤ℤ residual_of m w

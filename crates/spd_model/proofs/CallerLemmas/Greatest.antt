@@ -1,5 +1,5 @@
 -- The greatest of a list, and its first place.
-use Rattle.std.proofs.Common.{◌≡◌, ℕ, zero, suc, ◌+◌, ◌<◌, List, [], ◌∷◌, ◌++◌, length, map, fold, ℤ, ◌≤ℤ◌, refl, ap, sym, ◌∙◌, subst, arith, take, drop, get_or, Bool, true, false, cond, eqb, inl, inr, Contains, slice_get, nat_lt, ◌<ℤ◌, unwrap_or, Some, None, not, length-append, length-take}
+use Rattle.std.proofs.Common.{◌≡◌, ℕ, suc, ◌+◌, ◌<◌, List, [], ◌∷◌, ◌++◌, length, map, fold, ℤ, ◌≤ℤ◌, refl, ap, sym, ◌∙◌, subst, arith, take, drop, get_or, true, false, cond, eqb, inl, inr, Contains, slice_get, nat_lt, ◌<ℤ◌, unwrap_or, Some, None, not, length-append, length-take}
 use Rattle.std.proofs.lemmas.Int.{ints}
 use Rattle.std.proofs.lemmas.List.{take_more, map_push}
 use Rattle.std.proofs.Math.ListN.{length-map}

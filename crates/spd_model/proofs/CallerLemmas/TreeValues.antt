@@ -1,5 +1,5 @@
 -- What holds of each number and of each branch that is written in a tree holds of the tree's values.
-use Rattle.std.proofs.Common.{◌≡◌, ℕ, zero, suc, ◌^◌, ◌<◌, take, Bool, true, false, List, [], ◌∷◌, ◌++◌, length, get_or, flat_map, slice_index, slice_index_or, All, if◌then◌else◌, ℤ, pos, ◌≤ℤ◌, refl, sym, subst, arith, inl, inr, length-append}
+use Rattle.std.proofs.Common.{◌≡◌, ℕ, zero, suc, ◌^◌, ◌<◌, take, Bool, List, [], ◌∷◌, ◌++◌, length, get_or, flat_map, slice_index, slice_index_or, All, if◌then◌else◌, ℤ, pos, ◌≤ℤ◌, refl, subst, arith, inl, inr, length-append}
 use Rattle.std.specs.Prelude.{slice_get, Some, None}
 use Rattle.std.proofs.lemmas.Int.{ints}
 use Rattle.std.proofs.lemmas.Bool.{cases_lt}

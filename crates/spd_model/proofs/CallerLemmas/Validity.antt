@@ -5,7 +5,7 @@ use Rattle.std.specs.List.{enumerate_from}
 use Rattle.std.specs.Ordering.{int_eq}
 use Rattle.std.proofs.lemmas.Bool.{false≢true, le-leb}
 use Rattle.std.proofs.lemmas.Bool.Decides.{nat_tests}
-use Rattle.std.proofs.lemmas.List.Elements.{All-map, All-weaker, All-contains}
+use Rattle.std.proofs.lemmas.List.Elements.{All-map, All-contains}
 use Rattle.spd_scaled.proofs.CallerLemmas.Ring.{int_eq-true, int_eq-holds}
 use Rattle.spd_model.specs.declared.process.Action.{Action}
 use Rattle.spd_model.specs.Process.{Process}

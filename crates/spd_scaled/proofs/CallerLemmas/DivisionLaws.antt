@@ -4,7 +4,7 @@
 use Rattle.std.proofs.Common.{◌≡◌, ◌<◌, ℤ, pos, negsuc, neg_ℤ, ◌+ℤ◌, ◌*ℤ◌, ◌≤ℤ◌, ◌<ℤ◌, arith, sym}
 use Rattle.std.proofs.lemmas.Int.{ints}
 use native.Mathlib.Nat.{div-add-mod', mod-lt}
-use Rattle.spd_scaled.proofs.CallerLemmas.Ring.{neg_ℤ-*ℤ, +ℤ-*ℤ, *ℤ_cancel_within, ≤ℤ_antisymm}
+use Rattle.spd_scaled.proofs.CallerLemmas.Ring.{neg_ℤ-*ℤ, *ℤ_cancel_within, ≤ℤ_antisymm}
 use Rattle.spd_scaled.specs.Scaled.{floor_div, ceil_div, IsWithin}
 
 -- ---- the bounds
@@ -63,11 +63,6 @@ pub floor_div-≤ℤ-ceil_div : (n d : ℤ) → pos 0 <ℤ d → floor_div n d �
 floor_div-≤ℤ-ceil_div n d p =
     let low = floor_div_at_most n d p in ceil_div_greatest n d (floor_div n d) p (omega (arith, ints))
 
-pub ceil_div_close : (n d : ℤ) → pos 0 <ℤ d → ceil_div n d ≤ℤ (floor_div n d +ℤ pos 1)
-ceil_div_close n d p =
-    let high = floor_div_next_above n d p in
-    ceil_div_least n d (floor_div n d +ℤ pos 1) p (omega (arith, ints, +ℤ-*ℤ (floor_div n d) (pos 1) d))
-
 -- ---- multiples of the divisor
 
 pub floor_div_multiple : (q d : ℤ) → pos 0 <ℤ d → floor_div (q *ℤ d) d ≡ q
@@ -75,20 +70,6 @@ floor_div_multiple q d p = sym (floor_div_unique (q *ℤ d) d q p (omega (arith,
 
 pub ceil_div_multiple : (q d : ℤ) → pos 0 <ℤ d → ceil_div (q *ℤ d) d ≡ q
 ceil_div_multiple q d p = sym (ceil_div_unique (q *ℤ d) d q p (omega (arith, ints)) (omega (arith, ints)))
-
-pub floor_div-+ℤ-multiple : (n q d : ℤ) → pos 0 <ℤ d → floor_div (n +ℤ q *ℤ d) d ≡ floor_div n d +ℤ q
-floor_div-+ℤ-multiple n q d p =
-    let low = floor_div_at_most n d p in
-    let high = floor_div_next_above n d p in
-    let apart = +ℤ-*ℤ (floor_div n d) q d in
-    sym (floor_div_unique (n +ℤ q *ℤ d) d (floor_div n d +ℤ q) p (omega (arith, ints)) (omega (arith, ints)))
-
-pub ceil_div-+ℤ-multiple : (n q d : ℤ) → pos 0 <ℤ d → ceil_div (n +ℤ q *ℤ d) d ≡ ceil_div n d +ℤ q
-ceil_div-+ℤ-multiple n q d p =
-    let low = ceil_div_last_below n d p in
-    let high = ceil_div_at_least n d p in
-    let apart = +ℤ-*ℤ (ceil_div n d) q d in
-    sym (ceil_div_unique (n +ℤ q *ℤ d) d (ceil_div n d +ℤ q) p (omega (arith, ints)) (omega (arith, ints)))
 
 -- ---- magnitude: a number within c times the divisor has a quotient within c
 

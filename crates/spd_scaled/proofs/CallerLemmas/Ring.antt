@@ -4,7 +4,7 @@
 -- adds up. At a hypothesis: `let h' = simp ring at h in ..`. Where nothing is left to rewrite `simp` is refused, so
 -- leave that call out. State such a fact over variables of ℤ with premises as `pos 0 ≤ℤ x`: `pos a *ℤ pos b` computes
 -- to `pos (a * b)`, which the set doesn't read.
-use Rattle.std.proofs.Common.{◌≡◌, ◌≢◌, ℕ, ◌*◌, ℤ, pos, negsuc, neg_ℤ, ◌+ℤ◌, ◌-ℤ◌, ◌*ℤ◌, ◌≤ℤ◌, ◌<ℤ◌, true, false, int_lt, int_le, rules, arith, ap, sym, ◌∙◌}
+use Rattle.std.proofs.Common.{◌≡◌, ℕ, ◌*◌, ℤ, pos, negsuc, neg_ℤ, ◌+ℤ◌, ◌-ℤ◌, ◌*ℤ◌, ◌≤ℤ◌, ◌<ℤ◌, true, false, int_lt, rules, arith, ap, sym, ◌∙◌}
 use Rattle.std.proofs.lemmas.Int.{ints, by_lt_z}
 use Rattle.std.proofs.lemmas.Bool.Decides.{Decides-int_eq}
 use Rattle.std.specs.Ordering.{int_eq}
@@ -35,9 +35,6 @@ pub *ℤ-neg_ℤ : (x d : ℤ) → x *ℤ neg_ℤ d ≡ neg_ℤ (x *ℤ d)
 
 pub -ℤ-*ℤ : (x y d : ℤ) → (x -ℤ y) *ℤ d ≡ x *ℤ d -ℤ y *ℤ d
 -ℤ-*ℤ x y d = +ℤ-*ℤ x (neg_ℤ y) d ∙ ap (λ k. x *ℤ d +ℤ k) (neg_ℤ-*ℤ y d)
-
-pub *ℤ-difference : (d x y : ℤ) → d *ℤ (x -ℤ y) ≡ d *ℤ x -ℤ d *ℤ y
-*ℤ-difference d x y = *ℤ-+ℤ d x (neg_ℤ y) ∙ ap (λ k. d *ℤ x +ℤ k) (*ℤ-neg_ℤ d y)
 
 pub *ℤ_assoc : (x y z : ℤ) → (x *ℤ y) *ℤ z ≡ x *ℤ (y *ℤ z)
 *ℤ_assoc x y z =
@@ -83,12 +80,6 @@ pub *ℤ_mono : (x y d : ℤ) → pos 0 ≤ℤ d → x ≤ℤ y → (x *ℤ d) �
 pub *ℤ_mono_right : (d x y : ℤ) → pos 0 ≤ℤ d → x ≤ℤ y → (d *ℤ x) ≤ℤ (d *ℤ y)
 *ℤ_mono_right d x y h k = rw (*ℤ_comm d x, *ℤ_comm d y) (*ℤ_mono x y d h k)
 
--- a factor above 0 keeps the strict order
-pub *ℤ_strict_mono : (x y d : ℤ) → pos 0 <ℤ d → x <ℤ y → (x *ℤ d) <ℤ (y *ℤ d)
-*ℤ_strict_mono x y d h k =
-    let above = *ℤ_mono (x +ℤ pos 1) y d (omega (arith, ints)) (omega (arith, ints)) in
-    omega (arith, ints, +ℤ-*ℤ x (pos 1) d, one-*ℤ d)
-
 -- a factor above 0 is cancelled, also where the right side is short of one more of it
 pub *ℤ_cancel_within : (x y d : ℤ) → pos 0 <ℤ d → (x *ℤ d) <ℤ (y *ℤ d +ℤ d) → x ≤ℤ y
 *ℤ_cancel_within x y d p h = by_lt_z y x (λ (k : y <ℤ x). absurd (beyond x y d p h k)) (λ (k : x ≤ℤ y). k)
@@ -100,19 +91,6 @@ pub *ℤ_cancel_within : (x y d : ℤ) → pos 0 <ℤ d → (x *ℤ d) <ℤ (y *
 
 pub *ℤ_cancel_≤ℤ : (x y d : ℤ) → pos 0 <ℤ d → (x *ℤ d) ≤ℤ (y *ℤ d) → x ≤ℤ y
 *ℤ_cancel_≤ℤ x y d p h = *ℤ_cancel_within x y d p (omega (arith, ints))
-
-pub *ℤ_cancel_<ℤ : (x y d : ℤ) → pos 0 <ℤ d → (x *ℤ d) <ℤ (y *ℤ d) → x <ℤ y
-*ℤ_cancel_<ℤ x y d p h =
-    by_lt_z x y (λ (k : x <ℤ y). k) (λ (k : y ≤ℤ x). absurd (not_below x y d p h k))
-  where
-    not_below : (x y d : ℤ) → pos 0 <ℤ d → (x *ℤ d) <ℤ (y *ℤ d) → y ≤ℤ x → ⊥
-    not_below x y d p h k = let low = *ℤ_mono y x d (omega (arith, ints)) k in omega (arith, ints)
-
-pub *ℤ_cancel : (x y d : ℤ) → pos 0 <ℤ d → x *ℤ d ≡ y *ℤ d → x ≡ y
-*ℤ_cancel x y d p h =
-    let low = *ℤ_cancel_≤ℤ x y d p (omega (arith, ints)) in
-    let high = *ℤ_cancel_≤ℤ y x d p (omega (arith, ints)) in
-    omega (arith, ints)
 
 -- ---- order, and the tests of it
 
@@ -128,29 +106,8 @@ int_lt-true x y h = grind (arith, ints)
 pub int_lt-false : (x y : ℤ) → int_lt x y ≡ false → y ≤ℤ x
 int_lt-false x y h = grind (arith, ints)
 
-pub int_lt-holds : (x y : ℤ) → x <ℤ y → int_lt x y ≡ true
-int_lt-holds x y h = grind (arith, ints)
-
-pub int_lt-fails : (x y : ℤ) → y ≤ℤ x → int_lt x y ≡ false
-int_lt-fails x y h = grind (arith, ints)
-
-pub int_le-true : (x y : ℤ) → int_le x y ≡ true → x ≤ℤ y
-int_le-true x y h = grind (arith, ints)
-
-pub int_le-false : (x y : ℤ) → int_le x y ≡ false → y <ℤ x
-int_le-false x y h = grind (arith, ints)
-
-pub int_le-holds : (x y : ℤ) → x ≤ℤ y → int_le x y ≡ true
-int_le-holds x y h = grind (arith, ints)
-
-pub int_le-fails : (x y : ℤ) → y <ℤ x → int_le x y ≡ false
-int_le-fails x y h = grind (arith, ints)
-
 pub int_eq-true : (x y : ℤ) → int_eq x y ≡ true → x ≡ y
 int_eq-true x y h = search (rules, Decides-int_eq)
-
-pub int_eq-false : (x y : ℤ) → int_eq x y ≡ false → x ≢ y
-int_eq-false x y h = search (rules, Decides-int_eq)
 
 pub int_eq-holds : (x y : ℤ) → x ≡ y → int_eq x y ≡ true
 int_eq-holds x y h = search (rules, Decides-int_eq)

@@ -1,7 +1,7 @@
 -- The text of a scaled number: its digits, and how long it is.
-use Rattle.std.proofs.Common.{◌≡◌, ℕ, zero, suc, ◌+◌, ◌*◌, ◌/◌, ◌%◌, ◌^◌, ◌<◌, ◌≤◌, ◌⊎◌, List, [], ◌∷◌, ◌-◌, length, take, drop, take_all, ℤ, pos, negsuc, unsigned_abs, decimal, refl, inl, inr, lit<, arith, ◌∙◌, length-append}
-use Rattle.std.proofs.lemmas.Fmt.{decimal_digit, decimal_step_wide, length-decimal-le_wide}
-use Rattle.std.proofs.Math.Nat.{pow-suc, mod-lt, div-le_self}
+use Rattle.std.proofs.Common.{◌≡◌, ℕ, zero, suc, ◌+◌, ◌*◌, ◌/◌, ◌%◌, ◌^◌, ◌<◌, ◌⊎◌, List, [], ◌∷◌, ◌-◌, length, take, drop, take_all, ℤ, unsigned_abs, decimal, refl, inl, inr, lit<, arith, ◌∙◌, length-append}
+use Rattle.std.proofs.lemmas.Fmt.{decimal_digit, decimal_step_wide}
+use Rattle.std.proofs.Math.Nat.{pow-suc, mod-lt}
 use Rattle.std.proofs.lemmas.Nat.{div-mul-add, mod-mul-add}
 use Rattle.std.proofs.Math.Arith.{mod-mul}
 use Rattle.std.proofs.lemmas.Int.Digits.{digits_push, digits_value_push}
@@ -57,22 +57,9 @@ without_first first bytes rest e = rw e (let all : suc (length rest) - 1 ≡ len
 
 -- ---- how long a text is
 
-length-sign_text-le : (n : ℤ) → length (sign_text n) ≤ 1
-length-sign_text-le (pos n) = omega arith
-length-sign_text-le (negsuc n) = omega arith
-
 pub length-units_text : (places : ℕ) (n : ℤ) → length (units_text places n) ≡ length (sign_text n) + length (decimal (unsigned_abs n / 10 ^ places)) + 1 + places
 length-units_text places n =
     simp length-append (omega (arith, length-last_digits places (unsigned_abs n)))
-
--- the text of any number of 128 bits fits
-pub length-units_text-le : (places : ℕ) (n : ℤ) → (places ≡ 9) ⊎ (places ≡ 12) → unsigned_abs n ≤ 2 ^ 127 → length (units_text places n) ≤ 64
-length-units_text-le places n few h =
-    let sign = length-sign_text-le n in
-    let less = div-le_self (unsigned_abs n) (10 ^ places) in
-    let below : unsigned_abs n / 10 ^ places < 10 ^ 40 = omega arith in
-    let whole = length-decimal-le_wide 40 (unsigned_abs n / 10 ^ places) (omega arith) below (omega arith) in
-    omega (arith, length-units_text places n)
 
 -- ---- what a reader of the text finds
 

@@ -1,77 +1,50 @@
-use Rattle.std.proofs.Common.{rules, subst, IfOk, IfErr, [], ◌∷◌}
-use Rattle.spd_nodes.specs.Shown.{KnowsAs, Faults}
-use Rattle.spd_apply.proofs.Steps.{did-call, did-yes, did-no, did-test, fault-yes, fault-no, can-test, join-is}
+use Rattle.std.proofs.Common.{rules, ℕ, List, sym, subst}
+use Rattle.spd_apply.specs.Rules.{IsBelow}
+use Rattle.spd_apply.proofs.BelowLaws.{yes-fails, no-goes, no-smaller, no-fails, can-test, test-made}
+use Rattle.spd_apply.proofs.MemoLaws.{answers-grow}
 use Rattle.spd_apply.proofs.make.+make.Goals as goal
 
-pub make_anew-returns-in_err-yes-in-Test-clause-did : goal.make_anew-returns-in_err-yes-in-Test-clause-did
-make_anew-returns-in_err-yes-in-Test-clause-did g t c =
-    let one = rw c.plan.ensures.same at c.make_below-in-Test.ensures.did in
-    did-yes (g.R.Rule.making c.args.rule.now) (g.R.Rule.may c.args.rule.now (g.F.Forest.shows c.args.forest.now).sizes) (g.F.Forest.shows c.args.forest.now) c.args.f c.args.g c.in-Test.level.0 c.in-Test.yes c.in-Test.no c.args.memo.now c.requires.sound c.requires.memo c.in-Test.ensures.plan
-    (g.F.Forest.shows c.make_below-in-Test.new.forest) c.make_below-in-Test.new.memo one
-
-pub make_anew-returns-in_err-yes-in-Test-clause-fault : goal.make_anew-returns-in_err-yes-in-Test-clause-fault
-make_anew-returns-in_err-yes-in-Test-clause-fault g t c =
-    let one = rw c.plan.ensures.same at c.make_below-in-Test.ensures.did in
-    let below = rw c.plan.ensures.same at c.in_err-yes-in-Test.ensures.fault in
-    let fault = fault-yes (g.R.Rule.making c.args.rule.now) (g.R.Rule.may c.args.rule.now (g.F.Forest.shows c.args.forest.now).sizes) (g.F.Forest.shows c.args.forest.now) c.args.f c.args.g c.in-Test.level.0 c.in-Test.yes c.in-Test.no c.args.memo.now c.requires.sound c.requires.memo c.in-Test.ensures.plan
-    (g.F.Forest.shows c.make_below-in-Test.new.forest) c.make_below-in-Test.new.memo one c.in_err-yes-in-Test.field-0.0 below in
+pub make_anew-returns-in_err-yes-in-Test-clause-made : goal.make_anew-returns-in_err-yes-in-Test-clause-made
+make_anew-returns-in_err-yes-in-Test-clause-made g t c =
+    let made = yes-fails (g.D.Descent.making c.args.rule.now) (g.D.Descent.may c.args.rule.now (g.F.Forest.shows c.args.forest.now).sizes) (g.F.Forest.shows c.args.forest.now) c.args.f.name c.args.g.name c.in-Test.level.0 c.in-Test.yes c.in-Test.no c.in-Test.ensures.plan
+    (g.F.Forest.shows c.make_below-in-Test.new.forest) c.in_err-yes-in-Test.field-0.0 c.in_err-yes-in-Test.ensures.made in
     search rules
 
-pub make_anew-returns-in_err-no-in-Test-clause-did : goal.make_anew-returns-in_err-no-in-Test-clause-did
-make_anew-returns-in_err-no-in-Test-clause-did g t c =
-    let one = rw c.plan.ensures.same at c.make_below-in-Test.ensures.did in
-    did-no (g.R.Rule.making c.args.rule.now) (g.R.Rule.may c.args.rule.now (g.F.Forest.shows c.args.forest.now).sizes) (g.F.Forest.shows c.args.forest.now) c.args.f c.args.g c.in-Test.level.0 c.in-Test.yes c.in-Test.no c.args.memo.now c.requires.sound c.requires.memo c.in-Test.ensures.plan
-    (g.F.Forest.shows c.make_below-in-Test.new.forest) c.make_below-in-Test.new.memo one
-    (g.F.Forest.shows c.make_below-in-Test-2.new.forest) c.make_below-in-Test-2.new.memo c.make_below-in-Test-2.ensures.did
+pub make_anew-make_below-requires-in-Test-2 : goal.make_anew-make_below-requires-in-Test-2
+make_anew-make_below-requires-in-Test-2 g t c κs within =
+    let goes = no-goes (g.D.Descent.making c.args.rule.now) (g.D.Descent.may c.args.rule.now (g.F.Forest.shows c.args.forest.now).sizes) (g.F.Forest.shows c.args.forest.now) c.args.f.name c.args.g.name c.in-Test.level.0 c.in-Test.yes c.in-Test.no c.in-Test.ensures.plan
+    (g.F.Forest.shows c.make_below-in-Test.new.forest) c.make_below-in-Test.ensures.made.grows in
+    let smaller = no-smaller (g.D.Descent.making c.args.rule.now) (g.D.Descent.may c.args.rule.now (g.F.Forest.shows c.args.forest.now).sizes) (g.F.Forest.shows c.args.forest.now) c.args.f.name c.args.g.name c.in-Test.level.0 c.in-Test.yes c.in-Test.no c.in-Test.ensures.plan
+    (g.F.Forest.shows c.make_below-in-Test.new.forest) c.make_below-in-Test.ensures.made.grows in
+    let below : IsBelow (g.D.Descent.may c.args.rule.now (g.F.Forest.shows c.make_below-in-Test.new.forest).sizes) (g.F.Forest.shows c.make_below-in-Test.new.forest) c.in-Test.no = subst (λ (z : List ℕ). IsBelow (g.D.Descent.may c.args.rule.now z) (g.F.Forest.shows c.make_below-in-Test.new.forest) c.in-Test.no) (sym c.make_below-in-Test.ensures.made.grows.sizes) goes in
+    search rules
 
-pub make_anew-returns-in_err-no-in-Test-clause-fault : goal.make_anew-returns-in_err-no-in-Test-clause-fault
-make_anew-returns-in_err-no-in-Test-clause-fault g t c =
-    let one = rw c.plan.ensures.same at c.make_below-in-Test.ensures.did in
-    let fault = fault-no (g.R.Rule.making c.args.rule.now) (g.R.Rule.may c.args.rule.now (g.F.Forest.shows c.args.forest.now).sizes) (g.F.Forest.shows c.args.forest.now) c.args.f c.args.g c.in-Test.level.0 c.in-Test.yes c.in-Test.no c.args.memo.now c.requires.sound c.requires.memo c.in-Test.ensures.plan
-    (g.F.Forest.shows c.make_below-in-Test.new.forest) c.make_below-in-Test.new.memo one
-    (g.F.Forest.shows c.make_below-in-Test-2.new.forest) c.make_below-in-Test-2.new.memo c.make_below-in-Test-2.ensures.did
-    c.in_err-no-in-Test.field-0.0 c.in_err-no-in-Test.ensures.fault in
+pub make_anew-returns-in_err-no-in-Test-clause-made : goal.make_anew-returns-in_err-no-in-Test-clause-made
+make_anew-returns-in_err-no-in-Test-clause-made g t c =
+    let made = no-fails (g.D.Descent.making c.args.rule.now) (g.D.Descent.may c.args.rule.now (g.F.Forest.shows c.args.forest.now).sizes) (g.F.Forest.shows c.args.forest.now) c.args.f.name c.args.g.name c.in-Test.level.0 c.in-Test.yes c.in-Test.no c.in-Test.ensures.plan
+    (g.F.Forest.shows c.make_below-in-Test.new.forest) c.in_ok-yes-in-Test.yes c.in_ok-yes-in-Test.ensures.made
+    (g.F.Forest.shows c.make_below-in-Test-2.new.forest) c.in_err-no-in-Test.field-0.0 c.in_err-no-in-Test.ensures.made in
     search rules
 
 pub make_anew-test-requires-clause-fits : goal.make_anew-test-requires-clause-fits
 make_anew-test-requires-clause-fits g t c =
-    let one = rw c.plan.ensures.same at c.make_below-in-Test.ensures.did in
-    let yes = rw c.plan.ensures.same at c.in_ok-yes-in-Test.ensures.ok in
-    can-test (g.R.Rule.making c.args.rule.now) (g.R.Rule.may c.args.rule.now (g.F.Forest.shows c.args.forest.now).sizes) (g.F.Forest.shows c.args.forest.now) c.args.f c.args.g c.in-Test.level.0 c.in-Test.yes c.in-Test.no c.args.memo.now c.requires.sound c.requires.memo c.in-Test.ensures.plan
-    (g.F.Forest.shows c.make_below-in-Test.new.forest) c.make_below-in-Test.new.memo one
-    (g.F.Forest.shows c.make_below-in-Test-2.new.forest) c.make_below-in-Test-2.new.memo c.make_below-in-Test-2.ensures.did
-    c.in_ok-yes-in-Test.yes c.in_ok-no-in-Test.no yes c.in_ok-no-in-Test.ensures.ok
+    can-test (g.D.Descent.making c.args.rule.now) (g.D.Descent.may c.args.rule.now (g.F.Forest.shows c.args.forest.now).sizes) (g.F.Forest.shows c.args.forest.now) c.args.f.name c.args.g.name c.in-Test.level.0 c.in-Test.yes c.in-Test.no c.in-Test.ensures.plan
+    (g.F.Forest.shows c.make_below-in-Test.new.forest) c.in_ok-yes-in-Test.yes c.in_ok-yes-in-Test.ensures.made
+    (g.F.Forest.shows c.make_below-in-Test-2.new.forest) c.in_ok-no-in-Test.no c.in_ok-no-in-Test.ensures.made
 
-pub make_anew-returns-in-Bottom-clause-did : goal.make_anew-returns-in-Bottom-clause-did
-make_anew-returns-in-Bottom-clause-did g t c =
-    let grows = rw c.plan.ensures.same at c.bottom.ensures.grows in
-    let makes = rw c.plan.ensures.same at c.bottom.ensures.makes in
-    did-call (g.R.Rule.making c.args.rule.now) (g.F.Forest.shows c.args.forest.now) (g.F.Forest.shows c.bottom.new.forest) _ c.args.memo.now c.requires.memo c.bottom.ensures.sound grows makes
+pub make_anew-returns-in_ok-no-in-Test-clause-made : goal.make_anew-returns-in_ok-no-in-Test-clause-made
+make_anew-returns-in_ok-no-in-Test-clause-made g t c =
+    test-made (g.D.Descent.making c.args.rule.now) (g.D.Descent.may c.args.rule.now (g.F.Forest.shows c.args.forest.now).sizes) (g.F.Forest.shows c.args.forest.now) c.args.f.name c.args.g.name c.in-Test.level.0 c.in-Test.yes c.in-Test.no c.in-Test.ensures.plan
+    (g.F.Forest.shows c.make_below-in-Test.new.forest) c.in_ok-yes-in-Test.yes c.in_ok-yes-in-Test.ensures.made
+    (g.F.Forest.shows c.make_below-in-Test-2.new.forest) c.in_ok-no-in-Test.no c.in_ok-no-in-Test.ensures.made
+    (g.F.Forest.shows c.test.new.self) c.test.result
+    (record { sound = c.test.ensures.sound; grows = c.test.ensures.grows; ok = c.test.ensures.ok; makes = c.test.ensures.makes; fault = c.test.ensures.fault })
 
-pub make_anew-returns-in_ok-no-in-Test-clause-did : goal.make_anew-returns-in_ok-no-in-Test-clause-did
-make_anew-returns-in_ok-no-in-Test-clause-did g t c =
-    let one = rw c.plan.ensures.same at c.make_below-in-Test.ensures.did in
-    let yes = rw c.plan.ensures.same at c.in_ok-yes-in-Test.ensures.ok in
-    did-test (g.R.Rule.making c.args.rule.now) (g.R.Rule.may c.args.rule.now (g.F.Forest.shows c.args.forest.now).sizes) (g.F.Forest.shows c.args.forest.now) c.args.f c.args.g c.in-Test.level.0 c.in-Test.yes c.in-Test.no c.args.memo.now c.requires.sound c.requires.memo c.in-Test.ensures.plan
-    (g.F.Forest.shows c.make_below-in-Test.new.forest) c.make_below-in-Test.new.memo one
-    (g.F.Forest.shows c.make_below-in-Test-2.new.forest) c.make_below-in-Test-2.new.memo c.make_below-in-Test-2.ensures.did
-    c.in_ok-yes-in-Test.yes c.in_ok-no-in-Test.no yes c.in_ok-no-in-Test.ensures.ok
-    (g.F.Forest.shows c.test.new.self) c.test.ensures.sound c.test.ensures.grows c.test.ensures.makes
+pub make_anew-returns-in-Leaf-clause-memo : goal.make_anew-returns-in-Leaf-clause-memo
+make_anew-returns-in-Leaf-clause-memo g t c = answers-grow c.requires.ready.memo c.leaf.ensures.grows
 
-pub make_anew-returns-in_ok-no-in-Test-clause-ok : goal.make_anew-returns-in_ok-no-in-Test-clause-ok
-make_anew-returns-in_ok-no-in-Test-clause-ok g t c =
-    let one = rw c.plan.ensures.same at c.make_below-in-Test.ensures.did in
-    let yes = rw c.plan.ensures.same at c.in_ok-yes-in-Test.ensures.ok in
-    subst (λ u. IfOk c.test.result (λ r. KnowsAs (g.F.Forest.shows c.test.new.self) r u)) (join-is (g.R.Rule.making c.args.rule.now) (g.R.Rule.may c.args.rule.now (g.F.Forest.shows c.args.forest.now).sizes) (g.F.Forest.shows c.args.forest.now) c.args.f c.args.g c.in-Test.level.0 c.in-Test.yes c.in-Test.no c.args.memo.now c.requires.sound c.requires.memo c.in-Test.ensures.plan
-    (g.F.Forest.shows c.make_below-in-Test.new.forest) c.make_below-in-Test.new.memo one
-    (g.F.Forest.shows c.make_below-in-Test-2.new.forest) c.make_below-in-Test-2.new.memo c.make_below-in-Test-2.ensures.did
-    c.in_ok-yes-in-Test.yes c.in_ok-no-in-Test.no yes c.in_ok-no-in-Test.ensures.ok) c.test.ensures.ok
+pub make_anew-returns-in_ok-no-in-Test-clause-memo : goal.make_anew-returns-in_ok-no-in-Test-clause-memo
+make_anew-returns-in_ok-no-in-Test-clause-memo g t c = answers-grow c.make_below-in-Test-2.ensures.memo c.test.ensures.grows
 
-pub make_anew-returns-in_ok-no-in-Test-clause-fault : goal.make_anew-returns-in_ok-no-in-Test-clause-fault
-make_anew-returns-in_ok-no-in-Test-clause-fault g t c =
-    let one = rw c.plan.ensures.same at c.make_below-in-Test.ensures.did in
-    let yes = rw c.plan.ensures.same at c.in_ok-yes-in-Test.ensures.ok in
-    subst (λ u. IfErr c.test.result (λ e. Faults e (g.F.Forest.shows c.test.new.self) (u ∷ []))) (join-is (g.R.Rule.making c.args.rule.now) (g.R.Rule.may c.args.rule.now (g.F.Forest.shows c.args.forest.now).sizes) (g.F.Forest.shows c.args.forest.now) c.args.f c.args.g c.in-Test.level.0 c.in-Test.yes c.in-Test.no c.args.memo.now c.requires.sound c.requires.memo c.in-Test.ensures.plan
-    (g.F.Forest.shows c.make_below-in-Test.new.forest) c.make_below-in-Test.new.memo one
-    (g.F.Forest.shows c.make_below-in-Test-2.new.forest) c.make_below-in-Test-2.new.memo c.make_below-in-Test-2.ensures.did
-    c.in_ok-yes-in-Test.yes c.in_ok-no-in-Test.no yes c.in_ok-no-in-Test.ensures.ok) c.test.ensures.fault
+pub make_anew-returns-in-Bottom-clause-memo : goal.make_anew-returns-in-Bottom-clause-memo
+make_anew-returns-in-Bottom-clause-memo g t c = answers-grow c.requires.ready.memo c.bottom.ensures.made.grows

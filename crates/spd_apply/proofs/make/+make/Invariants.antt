@@ -12,7 +12,7 @@ decreases-make_pair g l =
 abbrev pub decreases-make_anew : goal.decreases-make_anew
 decreases-make_anew g l =
     let shown = g.F.Forest.shows l.forest.now in
-    3 * pair_rank (slots shown.sizes) (shown.tree l.f) (shown.tree l.g) + 1
+    3 * pair_rank (slots shown.sizes) (shown.tree l.f.name) (shown.tree l.g.name) + 1
 
 abbrev pub decreases-make_below : goal.decreases-make_below
 decreases-make_below g l = 3 * below_rank (g.F.Forest.shows l.forest.now) l.below

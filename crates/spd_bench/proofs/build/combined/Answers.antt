@@ -8,4 +8,4 @@ apply-requires-clause-fit g c = fit-counts (g.O.LeafOp.fits c.args.op.now) (2 ^ 
 pub returns-clause-ok : goal.returns-clause-ok
 returns-clause-ok g c =
     applied-made (g.O.LeafOp.of c.args.op.now) (g.F.Forest.shows c.args.forest.now) (g.F.Forest.shows c.apply.new.forest) c.args.f c.args.g c.layout.ensures.sound
-    c.requires.left.knows c.requires.right.knows (count-whole c.requires.left) (count-whole c.requires.right) c.apply.ensures.grows c.in_ok-apply.ensures.ok
+    c.requires.left.knows c.requires.right.knows (count-whole c.requires.left) (count-whole c.requires.right) c.apply.ensures.made.grows c.in_ok-apply.ensures.made.ok

@@ -1,6 +1,6 @@
 use Rattle.std.proofs.Common.{List, All, sym, subst}
 use Rattle.spd_cons_core.specs.declared.key.Entry.{Entry}
-use Rattle.spd_nodes.proofs.ShownLaws.{grows-then}
+use Rattle.spd_nodes.proofs.CallerLemmas.{grows-then}
 use Rattle.spd_bench.specs.Built.{IsKnownLeaf}
 use Rattle.spd_bench.proofs.KnownLaws.{leaves-grow, leaves-push, known-leaf}
 use Rattle.spd_bench.proofs.entries.children.Goals as goal

@@ -8,9 +8,9 @@ pub loop-kid-preserved : goal.loop-kid-preserved
 loop-kid-preserved g c =
     let s = g.F.Forest.shows c.args.forest.now in
     let h = c.loop-kid.invariant in
-    let here = rw h.same at (c.is_from.ensures.from c.if-not-is_from.false) in
+    let here = rw h.same at (c.is_whole.ensures.whole.0 c.if-not-is_whole.false) in
     record {
-      same = c.is_from.ensures.same ∙ h.same;
+      same = c.is_whole.ensures.same ∙ h.same;
       whole = All-more (λ k. IsWhole s k) c.args.kids.now c.loop-kid.kid-index _ c.loop-kid-test.true h.whole here;
     }
 

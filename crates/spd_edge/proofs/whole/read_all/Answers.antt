@@ -4,7 +4,7 @@ use Rattle.std.proofs.lemmas.List.{length-take-le}
 use Rattle.spd_edge.specs.Told.{GaveCount}
 use Rattle.spd_edge.specs.declared.outside.ReadAll.{ReadAll}
 use Rattle.spd_edge.specs.declared.outside.ReadAll.TheVariants.{TooLong}
-use Rattle.spd_edge.proofs.ToldLemmas.{Gave-trans}
+use Rattle.spd_edge.proofs.CallerLemmas.{Gave-trans}
 use Rattle.spd_edge.proofs.whole.read_all.Goals as goal
 
 -- the byte past the limit is the last that was taken

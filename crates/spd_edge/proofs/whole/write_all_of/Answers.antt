@@ -2,7 +2,7 @@ use Rattle.std.proofs.Common.{subst, sym, arith, List, ℕ}
 use Rattle.std.proofs.lemmas.Grind.{common_steps}
 use Rattle.std.proofs.Math.Seq.{take-add}
 use Rattle.spd_edge.specs.Told.{Took}
-use Rattle.spd_edge.proofs.ToldLemmas.{Took-trans}
+use Rattle.spd_edge.proofs.CallerLemmas.{Took-trans}
 use Rattle.spd_edge.proofs.whole.write_all_of.Goals as goal
 
 pub loop-done-preserved : goal.loop-done-preserved

@@ -1,8 +1,10 @@
 use Rattle.spd_apply.proofs.MapLaws.{map-plans}
 use Rattle.spd_apply.proofs.unary.EachLeafRule.plan.Goals as goal
 
-pub returns-in-Test-clause-plan : goal.returns-in-Test-clause-plan
-returns-in-Test-clause-plan g c =
-    let view = c.in-Test.ensures.view in
-    map-plans (g.M.LeafMap.of c.args.self.now.map.now) (g.M.LeafMap.fits c.args.self.now.map.now) (g.F.Forest.shows c.args.forest.now) c.requires.sound c.args.f c.requires.left
-    c.args.g c.in-Test.yes c.in-Test.no c.in-Test.level.0 c.requires.may view.0 view.1 view.2
+pub returns-in-Test : goal.returns-in-Test
+returns-in-Test g c =
+    let view = rw c.in-Test.is at c.requires.left.root in
+    record {
+      plan = map-plans (g.M.LeafMap.of c.args.self.now.map.now) (g.M.LeafMap.fits c.args.self.now.map.now) (g.F.Forest.shows c.args._forest.now) c.requires.sound c.args.f.name c.requires.left.known
+          c.args._g.name c.in-Test.yes c.in-Test.no c.in-Test.level.0 c.requires.may view.0 view.1 view.2;
+    }

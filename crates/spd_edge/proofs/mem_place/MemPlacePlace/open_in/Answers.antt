@@ -1,50 +1,46 @@
-use Rattle.std.proofs.Common.{◌≡◌, ◌+◌, ◌-◌, ◌^◌, min, ap, sym, ◌∙◌, ℕ, List, ◌++◌, ◌∷◌, [], Option, Some, None, rules}
-use Rattle.std.specs.Prelude.{position}
-use Rattle.std.specs.Str.{bytes_eq}
-use Rattle.spd_edge.specs.declared.mem_place.Put.{Put}
+use Rattle.std.proofs.Common.{◌≡◌, ℕ, List, ap, ◌∙◌, arith, refl, subst}
+use Rattle.spd_edge.specs.Counts.{AllInRange}
 use Rattle.spd_edge.specs.Memory.{Input}
-use Rattle.spd_edge.specs.MemoryPlace.{Inputs, input_under, put_under}
-use Rattle.spd_edge.proofs.MemoryPlaceLemmas.{faults_of-bound, find_none, input_under-renamed}
+use Rattle.spd_edge.specs.MemoryPlace.{IsUnread, MemoryPlace, Shelf, opened_on, refused_on, inputs_of, shelf_of}
+use Rattle.spd_edge.proofs.MemoryPlaceLemmas.{bytes_put, AllPut-found, AllPut-kept, Opens-opened, FailsToOpen-refused, NoneFalls-counting}
 use Rattle.spd_edge.proofs.mem_place.MemPlacePlace.open_in.Goals as goal
 
-pub returns-in_err-push-clause-count : goal.returns-in_err-push-clause-count
-returns-in_err-push-clause-count c = faults_of-bound (record { puts = c.self.inside.puts.items; asked = []; opened = []; faults = c.self.inside.faults }) c.self.invariant (search rules)
+pub invariant_of-self : goal.invariant_of-self
+invariant_of-self c =
+    let kept = AllPut-kept IsUnread (shelf_of c.self.inside.inputs) (shelf_of c.mark_open.new.self) (ap (λ (s : Shelf Input). s.put) c.mark_open.ensures.opened) c.self.invariant.0 in
+    (kept, c.self.invariant.1)
 
-pub returns-in_err-input-in-Some-clause-count : goal.returns-in_err-input-in-Some-clause-count
-returns-in_err-input-in-Some-clause-count c = faults_of-bound (record { puts = c.self.inside.puts.items; asked = []; opened = []; faults = c.self.inside.faults }) c.self.invariant (search rules)
+pub invariant_of-self-in-None : goal.invariant_of-self-in-None
+invariant_of-self-in-None c =
+    let kept = AllPut-kept IsUnread (shelf_of c.self.inside.inputs) (shelf_of c.refuse.new.self) (ap (λ (s : Shelf Input). s.put) c.in_ok-refuse-in-None.ensures.ok) c.self.invariant.0 in
+    (kept, c.self.invariant.1)
 
-pub returns-in_err-push-in-Some-clause-count : goal.returns-in_err-push-in-Some-clause-count
-returns-in_err-push-in-Some-clause-count c = faults_of-bound (record { puts = c.self.inside.puts.items; asked = []; opened = []; faults = c.self.inside.faults }) c.self.invariant (search rules)
+pub returns-in_ok-input-in-Some-clause-named : goal.returns-in_ok-input-in-Some-clause-named
+returns-in_ok-input-in-Some-clause-named c =
+    ap (λ (x : Input). x.name) c.in_ok-input-in-Some.ensures
+    ∙ (AllPut-found IsUnread (shelf_of c.self.inside.inputs) c.args.name.now c.in-Some.input.now c.self.invariant.0 c.in-Some.ensures.value).0
 
-pub returns-in_ok-push-in-Some-clause-count : goal.returns-in_ok-push-in-Some-clause-count
-returns-in_ok-push-in-Some-clause-count c = faults_of-bound (record { puts = c.self.inside.puts.items; asked = []; opened = []; faults = c.self.inside.faults }) c.self.invariant (search rules)
+opened : (c : goal.After-mark_open) → shelf_of c.mark_open.new.self ≡ opened_on (inputs_of c.args.self.now) c.args.name.now
+opened c = c.mark_open.ensures.opened ∙ ap (λ (p : MemoryPlace). opened_on (inputs_of p) c.args.name.now) c.self.view_is
 
-pub returns-in_ok-push-in-Some-clause-input : goal.returns-in_ok-push-in-Some-clause-input
-returns-in_ok-push-in-Some-clause-input c =
-    let found : position (λ each. bytes_eq each.input.name c.args.name.now) c.self.inside.puts.items ≡ Some c.in-Some.at =
-    ap (position (λ each. bytes_eq each.input.name c.args.name.now)) (sym c.deref.ensures.value) ∙ sym c.in-Some.ensures in
-    let under : Inputs → Option Input = λ place. input_under place.puts c.args.name.now in
-    ap (λ input. Some input) c.in_ok-input-in-Some.ensures
-    ∙ input_under-renamed c.self.inside.puts.items c.args.name.now c.in-Some.at c.index.result.now found c.index.ensures
-    ∙ ap under c.self.view_is
+pub returns-in_ok-input-in-Some-clause-inputs : goal.returns-in_ok-input-in-Some-clause-inputs
+returns-in_ok-input-in-Some-clause-inputs c = Opens-opened bytes_put (inputs_of c.args.self.now) (shelf_of c.mark_open.new.self) c.args.name.now (opened c)
 
--- nothing was put under the name
-nothing : (c : goal.After-count_faults) → put_under c.self.inside.puts.items c.args.name.now ≡ None
-nothing c =
-    find_none (λ each. bytes_eq each.input.name c.args.name.now) c.self.inside.puts.items
-    (ap (position (λ each. bytes_eq each.input.name c.args.name.now)) (sym c.deref.ensures.value) ∙ sym c.in-None.ensures)
+pub returns-in_ok-input-in-Some-clause-never_falls : goal.returns-in_ok-input-in-Some-clause-never_falls
+returns-in_ok-input-in-Some-clause-never_falls c =
+    let same = ap (λ (s : Shelf Input). s.faults) (opened c) in
+    λ name. let here : (shelf_of c.mark_open.new.self).faults name ≡ (inputs_of c.args.self.now).faults name = ap (λ (f : List ℕ → ℕ). f name) same in omega (arith, here)
 
-pub returns-in-None-clause-failed : goal.returns-in-None-clause-failed
-returns-in-None-clause-failed c =
-    λ _.
-    let under : Inputs → Option Put = λ place. put_under place.puts c.args.name.now in
-    ap under (sym c.self.view_is) ∙ nothing c
+module _ (c : goal.In_ok-refuse-in-None) where
+  refused : shelf_of c.refuse.new.self ≡ refused_on (inputs_of c.args.self.now) c.args.name.now
+  refused = c.in_ok-refuse-in-None.ensures.ok ∙ ap (λ (p : MemoryPlace). refused_on (inputs_of p) c.args.name.now) c.self.view_is
 
-pub returns-in-None-clause-counted : goal.returns-in-None-clause-counted
-returns-in-None-clause-counted c =
-    λ _.
-    let asking : List (List ℕ) → Inputs = λ names.
-    record { puts = c.self.inside.puts.items; asked = names; opened = c.self.inside.opened; faults = min (c.self.inside.faults + 1) (2 ^ 64 - 1) } in
-    let failing : Inputs → Inputs = λ place.
-    record place { asked = place.asked ++ c.args.name.now ∷ []; faults = min (place.faults + 1) (2 ^ 64 - 1) } in
-    c.count_faults.ensures.shared (nothing c) ∙ ap asking c.in_ok-push.ensures.ok ∙ ap failing c.self.view_is
+  in_range : AllInRange (inputs_of c.args.self.now).faults
+  in_range = subst (λ (p : MemoryPlace). AllInRange (inputs_of p).faults) c.self.view_is c.in-None.ensures.in_range
+
+pub returns-in_ok-refuse-in-None-clause-inputs : goal.returns-in_ok-refuse-in-None-clause-inputs
+returns-in_ok-refuse-in-None-clause-inputs c = FailsToOpen-refused bytes_put (inputs_of c.args.self.now) (shelf_of c.refuse.new.self) c.args.name.now (refused c)
+
+pub returns-in_ok-refuse-in-None-clause-never_falls : goal.returns-in_ok-refuse-in-None-clause-never_falls
+returns-in_ok-refuse-in-None-clause-never_falls c =
+    NoneFalls-counting (inputs_of c.args.self.now) _ (shelf_of c.refuse.new.self) c.args.name.now 1 (in_range c) refl (refused c)

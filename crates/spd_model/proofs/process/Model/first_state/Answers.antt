@@ -1,5 +1,4 @@
 use Rattle.std.proofs.Common.{length, ap, ◌∙◌, subst, sym, arith}
-use Rattle.spd_model.specs.declared.process.Var.{Var}
 use Rattle.spd_model.specs.Process.{Process}
 use Rattle.spd_model.specs.Lawful.{IsLawful}
 use Rattle.spd_model.specs.States.{sizes}

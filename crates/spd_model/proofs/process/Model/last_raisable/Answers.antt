@@ -1,11 +1,9 @@
-use Rattle.std.proofs.Common.{◌≡◌, ◌+◌, ◌-◌, ◌<◌, ◌≤◌, ℕ, zero, suc, List, [], length, drop, map, get_or, slice_index, ap, sym, ◌∙◌, subst, refl, arith, length-drop, add-one}
-use Rattle.std.specs.Prelude.{Some, IfSome}
+use Rattle.std.proofs.Common.{◌≡◌, ◌+◌, ◌-◌, ◌<◌, ◌≤◌, ℕ, zero, suc, List, [], length, drop, get_or, slice_index, ap, sym, ◌∙◌, refl, arith}
 use Rattle.std.proofs.lemmas.List.{get_or-map}
 use Rattle.std.proofs.Math.ListN.{drop_of_length-le}
 use Rattle.spd_model.specs.declared.process.Var.{Var}
 use Rattle.spd_model.specs.Process.{Process}
 use Rattle.spd_model.specs.States.{sizes, IsState, rank, state_count}
-use Rattle.spd_model.specs.Order.{IsRaisable}
 use Rattle.spd_model.proofs.CallerLemmas.StateOrder.{length-IsState, length-sizes}
 use Rattle.spd_model.proofs.Steps.{last_more}
 use Rattle.spd_model.proofs.process.Model.last_raisable.Goals as goal

@@ -1,4 +1,4 @@
-use Rattle.std.proofs.Common.{◌≡◌, ◌+◌, ◌≤◌, length, drop, ℕ}
+use Rattle.std.proofs.Common.{◌≡◌, ◌+◌, ◌≤◌, length, drop}
 use Rattle.spd_model.specs.States.{sizes, rank, state_count}
 use Rattle.spd_model.proofs.process.Model.last_raisable.Given as goal
 

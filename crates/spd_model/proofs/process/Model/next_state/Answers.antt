@@ -1,4 +1,4 @@
-use Rattle.std.proofs.Common.{◌≤◌, ◌<◌, length, All, slice_index, ap, subst, sym, arith, refl, ◌∙◌}
+use Rattle.std.proofs.Common.{◌≤◌, subst, sym, arith, refl}
 use Rattle.std.proofs.lemmas.List.Elements.{All-get_or}
 use Rattle.spd_model.specs.Lawful.{IsLawful}
 use Rattle.spd_model.specs.States.{sizes}

@@ -15,14 +15,14 @@ find_or_add-requires g c =
 pub returns-clause-ok : goal.returns-clause-ok
 returns-clause-ok g c =
     subst (λ u. IfOk c.find_or_add.result (λ r. KnowsAs (shown c.find_or_add.new.self) r u))
-    (join-two c.args.self.now c.layout.ensures.sound c.args.level.0 c.args.yes c.args.no c.requires.yes c.requires.no c.if-yes-no.false) c.find_or_add.ensures.ok
+    (join-two c.args.self.now c.layout.ensures.sound c.args.level.0 c.args.yes c.args.no c.requires.yes c.requires.no c.if-yes-no.false) c.find_or_add.ensures.made.ok
 
 pub returns-clause-makes : goal.returns-clause-makes
 returns-clause-makes g c =
     subst (λ u. MakesOnly (shown c.args.self.now) (shown c.find_or_add.new.self) (u ∷ []))
-    (join-two c.args.self.now c.layout.ensures.sound c.args.level.0 c.args.yes c.args.no c.requires.yes c.requires.no c.if-yes-no.false) c.find_or_add.ensures.makes
+    (join-two c.args.self.now c.layout.ensures.sound c.args.level.0 c.args.yes c.args.no c.requires.yes c.requires.no c.if-yes-no.false) c.find_or_add.ensures.made.makes
 
 pub returns-clause-fault : goal.returns-clause-fault
 returns-clause-fault g c =
     subst (λ u. IfErr c.find_or_add.result (λ e. Faults e (shown c.find_or_add.new.self) (u ∷ [])))
-    (join-two c.args.self.now c.layout.ensures.sound c.args.level.0 c.args.yes c.args.no c.requires.yes c.requires.no c.if-yes-no.false) c.find_or_add.ensures.fault
+    (join-two c.args.self.now c.layout.ensures.sound c.args.level.0 c.args.yes c.args.no c.requires.yes c.requires.no c.if-yes-no.false) c.find_or_add.ensures.made.fault

@@ -1,0 +1,12 @@
+pub mod Places
+pub mod Machines
+pub mod Ruling
+pub mod Allowed
+pub mod Others
+pub mod Facts
+pub mod Looking
+pub mod Claiming
+pub mod Publishing
+pub mod Comparing
+pub mod Passing
+pub mod KnownWords

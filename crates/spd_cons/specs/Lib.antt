@@ -1,0 +1,5 @@
+pub mod Values
+pub mod Ruled
+pub mod Told
+pub mod Shown
+pub mod Searching

@@ -1,5 +1,0 @@
-use Rattle.std.proofs.Common.{◌≡◌, true, take, All}
-use Rattle.spd_diagram_rows.proofs.guarded.is_mapped.Given as goal
-
-abbrev pub invariant-loop-a : goal.invariant-loop-a
-invariant-loop-a g l = All (λ a. g.M.LeafMap.fits l.map a ≡ true) (take l.a-index l.leaves)

@@ -1,0 +1,5 @@
+pub mod Nodes
+pub mod Frozen
+pub mod Fits
+pub mod Told
+pub mod inner

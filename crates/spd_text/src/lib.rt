@@ -1,0 +1,9 @@
+//! The text of a result, written to a sink piece by piece, without memory.
+#![tactic(auto)]
+
+mod names;
+mod nodes;
+mod result;
+mod waiting;
+
+pub use result::write_result;
