@@ -8,5 +8,8 @@ pub mod TableValues
 pub mod Steps
 pub mod Known
 pub mod Rows
+pub mod Numbered
+pub mod OwnSums
+pub mod BitTests
 pub mod Products
 pub mod ReturnFits
