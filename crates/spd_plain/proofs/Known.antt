@@ -21,7 +21,7 @@ use Rattle.spd_plain.specs.declared.reach.Reach.TheVariants.{Own, Later}
 use Rattle.spd_plain.specs.declared.chances.Chances.{Chances}
 use Rattle.spd_plain.specs.declared.chances.Chances.TheVariants.{Kept, Read}
 use Rattle.spd_plain.specs.Space.{axis_of, axes_of, IsAxis, state_limit}
-use Rattle.spd_plain.specs.Reach.{latest, reach_at}
+use Rattle.spd_plain.specs.Reach.{latest, reach_at, reaches_after}
 use Rattle.spd_plain.specs.Chances.{chance_of, values_of, IsKept}
 use Rattle.spd_plain.specs.Outlooks.{known_of}
 use Rattle.spd_plain.proofs.Tables.{few_from}
@@ -100,3 +100,10 @@ module _ (m : Process) (law : IsLawful m) (few : state_count (sizes m) ≤ state
   known_at a offered s state known x knows is =
       let x_is = entry_below (known_of m a s) (length m.vars) k x known knows near_var is in
       subst (λ (j : ℕ). IsKept m a s j x) (sym var_is) (subst (IsKept m a s k) (sym x_is) (known_kept m law a offered k near_var s state))
+
+  -- the reach of that variable's table
+  pub reach_read : (a : Action) (reaches : List Reach) → reaches ≡ reaches_after m a → get_or reaches k Own ≡ reach_at m a (get_or axes k d).var
+  reach_read a reaches reach_are =
+      let inside : k < length reaches = omega (arith, near_var, length-below (reach_at m a) (length m.vars) reaches reach_are) in
+      entry_below (reach_at m a) (length m.vars) k (get_or reaches k Own) reaches reach_are near_var (get_or_default reaches k Own (get_or reaches k Own) inside)
+      ∙ ap (reach_at m a) (sym var_is)

@@ -10,6 +10,7 @@ pub mod Known
 pub mod Rows
 pub mod Numbered
 pub mod OwnSums
+pub mod SweepLaws
 pub mod BitTests
 pub mod Products
 pub mod ReturnFits

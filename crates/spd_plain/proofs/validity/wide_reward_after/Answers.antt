@@ -63,3 +63,9 @@ reward-value-requires-clause-state c =
     let m = c.args.model.now in
     let are = c.as_slice-s-items.ensures ∙ c.requires.space.states in
     state_read m c.loop-s.s-index c.s-item.result c.as_slice-s-items.result.now are (omega (arith, ap length are, length-states (sizes m), c.loop-s-test.true)) c.s-item.is
+
+pub same_state-requires : goal.same_state-requires
+same_state-requires c =
+    let m = c.args.model.now in
+    let are = c.as_slice-s-items.ensures ∙ c.requires.space.states in
+    state_read m c.loop-s.s-index c.s-item.result c.as_slice-s-items.result.now are (omega (arith, ap length are, length-states (sizes m), c.loop-s-test.true)) c.s-item.is

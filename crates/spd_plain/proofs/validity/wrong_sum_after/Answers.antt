@@ -13,7 +13,7 @@ use Rattle.spd_plain.specs.declared.space.Axis.{Axis}
 use Rattle.spd_plain.specs.Space.{axis_of}
 use Rattle.spd_plain.specs.Reach.{reach_at}
 use Rattle.spd_plain.specs.Faults.{sum_record, sums_at, wrong_sum_of_var}
-use Rattle.spd_plain.proofs.Known.{entry_below, length-below, var_is, is_axis}
+use Rattle.spd_plain.proofs.Known.{length-below, var_is, is_axis, reach_read}
 use Rattle.spd_plain.proofs.Numbered.{is_some-option_map}
 use Rattle.spd_plain.proofs.validity.wrong_sum_after.Goals as goal
 
@@ -27,14 +27,9 @@ wrong_sum_of_var-wrong-requires-clause-axis c =
 
 pub wrong_sum_of_var-wrong-requires-clause-reach : goal.wrong_sum_of_var-wrong-requires-clause-reach
 wrong_sum_of_var-wrong-requires-clause-reach c =
-    let m = c.args.model.now in
     let law = subst IsLawful c.model.view_is c.model.invariant in
-    let k = c.loop-var.var in
-    let axes_are = c.as_slice-axes.ensures ∙ c.requires.space.axes in
-    let near : k < length m.vars = omega (arith, c.loop-var-test.true, length-below (axis_of m) (length m.vars) c.as_slice-axes.result.now axes_are) in
-    let inside : k < length c.args.reaches.now = omega (arith, near, length-below (reach_at m c.args.action.now) (length m.vars) c.args.reaches.now c.requires.reaches) in
-    entry_below (reach_at m c.args.action.now) (length m.vars) k (get_or c.args.reaches.now k Own) c.args.reaches.now c.requires.reaches near (get_or_default c.args.reaches.now k Own (get_or c.args.reaches.now k Own) inside)
-    ∙ ap (reach_at m c.args.action.now) (sym (var_is m law c.requires.space.few c.as_slice-axes.result.now axes_are k c.loop-var-test.true nothing))
+    reach_read c.args.model.now law c.requires.space.few c.as_slice-axes.result.now (c.as_slice-axes.ensures ∙ c.requires.space.axes) c.loop-var.var c.loop-var-test.true nothing
+    c.args.action.now c.args.reaches.now c.requires.reaches
 
 pub returns-then-is_some : goal.returns-then-is_some
 returns-then-is_some c =
