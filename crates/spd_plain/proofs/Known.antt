@@ -73,12 +73,13 @@ module _ (m : Process) (law : IsLawful m) (a : Action) (offered : Contains m.act
     where
       by_reach : (r : Reach) → reach_at m a i ≡ r → IsKept m a s i (elim r [ Own ↦ Kept (values_of m a s i) | Later ↦ Read ])
       by_reach Own own =
-          let f : ℕ → ℤ = λ v. chance_of m a s i (v ∷ get_or (states (sizes_after m i)) 0 []) in
-          (length-below f (slice_index (sizes m) i) (values_of m a s i) refl,
-           λ v rest below later.
-           get_or-map f (numbers_below (slice_index (sizes m) i)) v 0 (pos 0) (omega (arith, length-numbers_below (slice_index (sizes m) i)))
-           ∙ ap f (get_or-numbers_below (slice_index (sizes m) i) v below)
-           ∙ own_same own s state v (get_or (states (sizes_after m i)) 0 []) rest)
+          let f : ℕ → ℤ = λ v. chance_of m a s i (v ∷ get_or (states (sizes_after m i)) 0 []) in (
+            length-below f (slice_index (sizes m) i) (values_of m a s i) refl,
+            λ v rest below later.
+                get_or-map f (numbers_below (slice_index (sizes m) i)) v 0 (pos 0) (omega (arith, length-numbers_below (slice_index (sizes m) i)))
+                ∙ ap f (get_or-numbers_below (slice_index (sizes m) i) v below)
+                ∙ own_same own s state v (get_or (states (sizes_after m i)) 0 []) rest,
+          )
       by_reach Later later = tt
 
 -- the axis that stands at k, and what is kept of its variable's probabilities

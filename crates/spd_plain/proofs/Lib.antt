@@ -11,6 +11,9 @@ pub mod Rows
 pub mod Numbered
 pub mod OwnSums
 pub mod SweepLaws
+pub mod Runs
+pub mod Shapes
+pub mod Told
 pub mod BitTests
 pub mod Products
 pub mod ReturnFits

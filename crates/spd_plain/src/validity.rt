@@ -135,7 +135,11 @@ fn wrong_sum_after(
 }
 
 /// The first sum of probabilities that isn't one, by action, variable and state.
-pub(crate) fn first_wrong_sum(model: &Model, reaches: &[Items<Reach>], space: &Space) -> Option<WrongSum>
+pub(crate) fn first_wrong_sum(
+    model: &Model,
+    reaches: &[Items<Reach>],
+    space: &Space,
+) -> Option<WrongSum>
     requires reaches { reaches.now ≡ reaches_of model.now }
     requires space { IsSpace model.now space.now }
     ensures { option_map sum_record result ≡ first_wrong_sum_of model.now }
@@ -175,7 +179,12 @@ pub(crate) fn reward(model: &Model, action: &Action, s: &State) -> i128
 }
 
 /// The first state at which an action's reward passes its limit.
-fn wide_reward_after(model: &Model, number: usize, action: &Action, space: &Space) -> Option<WideReward>
+fn wide_reward_after(
+    model: &Model,
+    number: usize,
+    action: &Action,
+    space: &Space,
+) -> Option<WideReward>
     requires number { number < 64 }
     requires action { Contains model.now.actions action.now }
     requires space { IsSpace model.now space.now }

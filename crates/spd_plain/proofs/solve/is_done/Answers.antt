@@ -1,7 +1,7 @@
 use Rattle.std.proofs.Common.{int_le, sym, ◌∙◌, rules, ◌≡◌, ◌-◌, ◌^◌, ap, pos, ◌*ℤ◌, FitsSigned, arith, lit<}
 use Rattle.std.proofs.lemmas.Int.{ints, to_z-of_z, fits_signed_mul}
 use mir.Syntax.{w128}
-use Rattle.spd_scaled.proofs.Magnitude.{unsigned_abs-le}
+use Rattle.spd_scaled.proofs.CallerLemmas.Magnitude.{unsigned_abs-le}
 use Rattle.spd_scaled.specs.Scaled.{IsWithin}
 use Rattle.spd_model.specs.Process.{Process}
 use Rattle.spd_model.specs.Turns.{stops_at}

@@ -10,7 +10,7 @@ use Rattle.spd_model.specs.Stops.{Stop}
 use Rattle.spd_plain.specs.declared.solve.Plain.{Plain}
 use Rattle.spd_plain.specs.Sweeps.{stop_record}
 use Rattle.spd_model.specs.Lawful.{IsLawful}
-use Rattle.spd_plain.proofs.Runs.{residual_within}
+use Rattle.spd_model.proofs.CallerLemmas.Bounded.{residual_within, IsBounded-at}
 use Rattle.spd_plain.proofs.solve.solve_valid.Goals as goal
 
 pub error_of-requires : goal.error_of-requires
@@ -19,7 +19,7 @@ error_of-requires c =
     let law = subst IsLawful c.model.view_is c.model.invariant in
     let fits : FitsSigned w128 c.in_ok-stop.stop.sweep.residual = search rules in
     simp to_z-of_z (subst (IsWithin _) (sym c.in_ok-stop.ensures.sweep.residual)
-    (residual_within m law c.requires.valid c.in_ok-stop.stop.value.items c.in_ok-stop.ensures.values.bounded))
+    (residual_within m law c.requires.valid (at (sizes m) c.in_ok-stop.stop.value.items) (IsBounded-at (sizes m) c.in_ok-stop.stop.value.items c.in_ok-stop.ensures.values.bounded)))
 
 -- the result of a run that stopped so, with this table
 abbrev plain_at : Process → Stop → List ℤ → Plain
@@ -48,7 +48,7 @@ returns c =
     let error_fits : FitsSigned w128 c.error_of.result = search rules in
     let residual = c.in_ok-stop.ensures.sweep.residual in
     let policy = c.from_vec-2.ensures ∙ c.in_ok-policy.ensures ∙ ap (λ (l : List ℤ). table_of (sizes m) (policy_of m (at (sizes m) l))) c.deref-3.ensures.value in
-    let place = c.residual_place-place.ensures ∙ ap (λ (l : List ℤ). place_of m (at (sizes m) l) r) c.deref-5.ensures.value ∙ ap (place_of m (at (sizes m) s.value.items)) residual in
+    let place = c.in_ok-place.ensures ∙ ap (λ (l : List ℤ). place_of m (at (sizes m) l) r) c.deref-5.ensures.value ∙ ap (place_of m (at (sizes m) s.value.items)) residual in
     let error = simp to_z-of_z at c.error_of.ensures in
     let stop = c.in_ok-stop.ensures.stop ∙ ap (stop_of m c.args.turns) (to_z-of_z w128 c.args.span c.ranges.span) in
     let parts : ◌≡◌ {A = Plain} (record {
@@ -57,9 +57,9 @@ returns c =
       value = c.from_vec.result;
       policy = c.from_vec-2.result;
       residual = r;
-      place = c.residual_place-place.result.state;
-      side = c.residual_place-place.result.side;
-      action = c.residual_place-place.result.action;
+      place = c.in_ok-place.place.state;
+      side = c.in_ok-place.place.side;
+      action = c.in_ok-place.place.action;
       error = c.error_of.result;
     }) (plain_at m (stop_record s) s.value.items) = λ i. record {
       turn = s.turn;

@@ -17,10 +17,11 @@ returns-then-count-gt-STATE_LIMIT-clause-passed c =
     let k = c.loop-var.var-index in
     let vars = c.as_slice-var-items.ensures ∙ ap (λ (m : Process). m.vars) c.model.view_is in
     let near : k < length m.vars = omega (arith, ap length vars, c.loop-var-test.true) in
-    let is = next_product m k c.loop-var.count c.len-count.result near c.loop-var.invariant.count (c.len-count.ensures ∙ size_read m c.as_slice-var-items.result.now k c.var-item.result vars c.loop-var-test.true c.var-item.is) in
-    (omega (arith, is, state_count-take-le (sizes m) (suc k) (sizes_some m law), c.if-count-gt-STATE_LIMIT.true),
-     find_map_here (nat_lt state_limit) (λ n. state_count (take (suc n) (sizes m))) (numbers_below (length m.vars)) k 0 (omega (arith, length-numbers_below (length m.vars))) c.loop-var.invariant.none
-     (c.loop-var.count * c.len-count.result) (is ∙ ap (λ (n : ℕ). state_count (take (suc n) (sizes m))) (sym (get_or-numbers_below (length m.vars) k near))) (lt_holds 4096 _ c.if-count-gt-STATE_LIMIT.true))
+    let is = next_product m k c.loop-var.count c.len-count.result near c.loop-var.invariant.count (c.len-count.ensures ∙ size_read m c.as_slice-var-items.result.now k c.var-item.result vars c.loop-var-test.true c.var-item.is) in (
+      omega (arith, is, state_count-take-le (sizes m) (suc k) (sizes_some m law), c.if-count-gt-STATE_LIMIT.true),
+      find_map_here (nat_lt state_limit) (λ n. state_count (take (suc n) (sizes m))) (numbers_below (length m.vars)) k 0 (omega (arith, length-numbers_below (length m.vars))) c.loop-var.invariant.none
+          (c.loop-var.count * c.len-count.result) (is ∙ ap (λ (n : ℕ). state_count (take (suc n) (sizes m))) (sym (get_or-numbers_below (length m.vars) k near))) (lt_holds 4096 _ c.if-count-gt-STATE_LIMIT.true),
+    )
 
 pub loop-var-preserved : goal.loop-var-preserved
 loop-var-preserved c =

@@ -30,3 +30,47 @@ side_of-side-requires-clause-bounds c =
 
 pub bounds-rows-place : goal.bounds-rows-place
 bounds-rows-place c = omega (arith, length-rows c.args.model.now c.args.rows.now c.requires.rows, c.first_place_of-place.ensures.within)
+
+pub bounds-as_slice-place : goal.bounds-as_slice-place
+bounds-as_slice-place c =
+    let m = c.args.model.now in
+    omega (arith, c.first_place_of-place.ensures.within, ap length (c.as_slice.ensures ∙ c.requires.values.space_is.states), length-states (sizes m))
+
+pub best_action-requires-clause-state : goal.best_action-requires-clause-state
+best_action-requires-clause-state c =
+    state_read c.args.model.now c.first_place_of-place.result c.index-as_slice-place.result c.as_slice.result.now (c.as_slice.ensures ∙ c.requires.values.space_is.states)
+    c.first_place_of-place.ensures.within c.index-as_slice-place.is
+
+pub best_action-requires-clause-outlooks : goal.best_action-requires-clause-outlooks
+best_action-requires-clause-outlooks c =
+    let m = c.args.model.now in
+    let k = c.first_place_of-place.result in
+    let near = c.first_place_of-place.ensures.within in
+    c.as_slice-2.ensures ∙ row_read m c.args.rows.now k c.index-rows-place.result c.index-as_slice-place.result c.requires.rows near c.index-rows-place.is
+    (state_is m k c.index-as_slice-place.result c.as_slice.result.now (c.as_slice.ensures ∙ c.requires.values.space_is.states) near c.index-as_slice-place.is)
+
+pub same_state-requires : goal.same_state-requires
+same_state-requires c =
+    state_read c.args.model.now c.first_place_of-place.result c.index-as_slice-place.result c.as_slice.result.now (c.as_slice.ensures ∙ c.requires.values.space_is.states)
+    c.first_place_of-place.ensures.within c.index-as_slice-place.is
+
+pub returns : goal.returns
+returns c =
+    let m = c.args.model.now in
+    let values = c.args.values.now in
+    let w = at (sizes m) values in
+    let ranges = c.as_slice-ranges.result.now in
+    let k = c.first_place_of-place.result in
+    let s = get_or (states (sizes m)) k [] in
+    let r = c.args.sweep.now.residual in
+    let near = c.first_place_of-place.ensures.within in
+    let are = ap (map range_of) c.as_slice-ranges.ensures.value ∙ c.requires.sweep.ranges in
+    let value_fits : FitsSigned w128 (get_or values k (pos 0)) = search rules in
+    let residual_fits : FitsSigned w128 r = search rules in
+    let side = simp to_z-of_z at c.side_of-side.ensures in
+    let above = above_here m values ranges are k (get_or ranges k nothing) nothing near refl in
+    let s_is = state_is m k c.index-as_slice-place.result c.as_slice.result.now (c.as_slice.ensures ∙ c.requires.values.space_is.states) near c.index-as_slice-place.is in
+    let action = c.in_ok-action.ensures ∙ ap (λ (t : List ℕ). action_on c.side_of-side.result m w t) s_is in
+    let placing : placed s c.side_of-side.result c.in_ok-action.action ≡ place_of m w r = place_is m w r s c.side_of-side.result c.in_ok-action.action c.first_place_of-place.ensures.first
+    (side ∙ ap (λ x. if int_eq r x then Above else Below) above) action in
+    ap (λ (l : List ℕ). placed l c.side_of-side.result c.in_ok-action.action) (c.same_state.ensures ∙ s_is) ∙ placing

@@ -25,20 +25,26 @@ bounds-values-place c =
     let m = c.args.model.now in
     omega (arith, c.loop-place-test.true, c.requires.values.count, ap length (c.as_slice-states.ensures ∙ c.requires.values.space_is.states), length-states (sizes m))
 
-pub best_bounds-bounds-requires-clause-state : goal.best_bounds-bounds-requires-clause-state
-best_bounds-bounds-requires-clause-state c =
+pub best_bounds-requires-clause-state : goal.best_bounds-requires-clause-state
+best_bounds-requires-clause-state c =
     let m = c.args.model.now in
     let are = c.as_slice-states.ensures ∙ c.requires.values.space_is.states in
     state_read m c.loop-place.place c.index-states-place.result c.as_slice-states.result.now are (omega (arith, c.loop-place-test.true, ap length are, length-states (sizes m))) c.index-states-place.is
 
-pub best_bounds-bounds-requires-clause-outlooks : goal.best_bounds-bounds-requires-clause-outlooks
-best_bounds-bounds-requires-clause-outlooks c =
+pub best_bounds-requires-clause-outlooks : goal.best_bounds-requires-clause-outlooks
+best_bounds-requires-clause-outlooks c =
     let m = c.args.model.now in
     let k = c.loop-place.place in
     let are = c.as_slice-states.ensures ∙ c.requires.values.space_is.states in
     let near : k < state_count (sizes m) = omega (arith, c.loop-place-test.true, ap length are, length-states (sizes m)) in
     c.as_slice.ensures ∙ row_read m c.args.rows.now k c.index-rows-place.result c.index-states-place.result c.requires.rows near c.index-rows-place.is
     (state_is m k c.index-states-place.result c.as_slice-states.result.now are near c.index-states-place.is)
+
+pub gap-requires-clause-value : goal.gap-requires-clause-value
+gap-requires-clause-value c =
+    let m = c.args.model.now in
+    let fits : FitsSigned w128 (get_or c.args.values.now c.loop-place.place (pos 0)) = search rules in
+    simp to_z-of_z (c.requires.values.bounded c.loop-place.place (pos 0) (omega (arith, c.loop-place-test.true, c.requires.values.count, ap length (c.as_slice-states.ensures ∙ c.requires.values.space_is.states), length-states (sizes m))))
 
 pub loop-place-preserved : goal.loop-place-preserved
 loop-place-preserved c =
