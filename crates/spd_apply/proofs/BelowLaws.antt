@@ -82,9 +82,6 @@ module _ (making : Making) (may : Tree → Tree → Type 0) (s : Shown) (f g : E
         pub yes-known : v.knows y ≡ true
         yes-known = second.grows.knows y first.ok.knows
 
-        pub level-in : l < levels_of (slots v.sizes)
-        level-in = rw same-sizes p.level_in
-
         pub can-test : CanTest (slots v.sizes) l (v.tree y) (v.tree m)
         can-test = rw (same-sizes, yes-tree, no-tree) p.can_test
 

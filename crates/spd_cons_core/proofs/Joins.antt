@@ -11,7 +11,7 @@ use Rattle.spd_cons_core.specs.declared.mind.Call.{Call}
 use Rattle.spd_cons_core.specs.Views.{Seat, Machine}
 use Rattle.spd_cons_core.specs.Seats.{spent, seat_at, learned}
 use Rattle.spd_cons_core.specs.Events.{can_join, either_spare, after_join, join}
-use Rattle.spd_cons_core.specs.Invariants.{IsSized, IsKnown, IsSeat, IsSound, Keeps, total, times_listed, shares, stands_at_end}
+use Rattle.spd_cons_core.specs.Invariants.{IsSized, IsKnown, IsSeat, IsSoundMachine, Keeps, total_over_seats, times_listed, shares, stands_at_end}
 use Rattle.spd_cons_core.proofs.Writes.{set_cases, live_within, total_set, share_of, share_live}
 use Rattle.spd_cons_core.proofs.Growth.{Grows, grow_claimed, grow_known, grow_seat}
 use Rattle.spd_cons_core.proofs.Knowledge.{joined_keeps, joined_known, joined_cases, parts_more}
@@ -67,7 +67,7 @@ knows_both c d g seat other was was' k at = ⊎_elim
     })
     (joined_cases other.knows seat.knows k at)
 
-joined_seat : (c : Machine) (i j : ℕ) (l : List Seat) → IsSound c → IsJoining c i j → IsSeat (record c { seats = l }) (after_join (seat_at c i) (seat_at c j))
+joined_seat : (c : Machine) (i j : ℕ) (l : List Seat) → IsSoundMachine c → IsJoining c i j → IsSeat (record c { seats = l }) (after_join (seat_at c i) (seat_at c j))
 joined_seat c i j l sound may =
     let seat : Seat = seat_at c i in
     let other : Seat = seat_at c j in
@@ -101,7 +101,7 @@ joined_seat c i j l sound may =
 
 -- a sum over the live seats after the join
 total_join : (f : Seat → ℕ) (c : Machine) (i j : ℕ) (w : Seat) → IsJoining c i j → w.live ≡ true
-    → sum_by (share_of f) (set (set c.seats i w) j spent) + (f (seat_at c i) + f (seat_at c j)) ≡ total f c + f w
+    → sum_by (share_of f) (set (set c.seats i w) j spent) + (f (seat_at c i) + f (seat_at c j)) ≡ total_over_seats f c + f w
 total_join f c i j w may live =
     let there : get_or (set c.seats i w) j spent ≡ seat_at c j = get_or-set_other c.seats i j w spent may.apart in
     let there_live : (get_or (set c.seats i w) j spent).live ≡ true = ap (λ (s : Seat). s.live) there ∙ may.there in
@@ -111,7 +111,7 @@ total_join f c i j w may live =
     omega arith
 
 total_joined : (f : Seat → ℕ) (c : Machine) (i j : ℕ) (w : Seat) → IsJoining c i j → w.live ≡ true → f w ≡ f (seat_at c i) + f (seat_at c j)
-    → sum_by (share_of f) (set (set c.seats i w) j spent) ≡ total f c
+    → sum_by (share_of f) (set (set c.seats i w) j spent) ≡ total_over_seats f c
 total_joined f c i j w may live both = let e = total_join f c i j w may live in omega arith
 
 more_ends : (a b : Bool) (m n : ℕ) → cond a m 0 + cond b n 0 ≤ cond (a || b) (m + n) 0
@@ -144,7 +144,7 @@ holder c i j may h e =
     h not_j)
     h
 
-joins : (c : Machine) (i j : ℕ) → IsSized c → IsSound c → IsJoining c i j → Keeps c (record c { seats = set (set c.seats i (after_join (seat_at c i) (seat_at c j))) j spent })
+joins : (c : Machine) (i j : ℕ) → IsSized c → IsSoundMachine c → IsJoining c i j → Keeps c (record c { seats = set (set c.seats i (after_join (seat_at c i) (seat_at c j))) j spent })
 joins c i j sized sound may =
     let seat : Seat = seat_at c i in
     let other : Seat = seat_at c j in
@@ -200,7 +200,7 @@ joins c i j sized sound may =
     }
 
 -- a join keeps the invariant
-pub join_keeps : (c : Machine) (i j : ℕ) → IsSized c → IsSound c → Keeps c (join c i j)
+pub join_keeps : (c : Machine) (i j : ℕ) → IsSized c → IsSoundMachine c → Keeps c (join c i j)
 join_keeps c i j sized sound =
     cond_both (can_join i j (seat_at c i) (seat_at c j)) _ c (Keeps c)
     (λ can. joins c i j sized sound (joining c i j can))

@@ -7,7 +7,7 @@ use Rattle.std.proofs.lemmas.List.Sums.{sum_by_push}
 use Rattle.spd_cons_core.specs.Views.{Seat, Machine}
 use Rattle.spd_cons_core.specs.Seats.{spent, seat_at}
 use Rattle.spd_cons_core.specs.Events.{can_split, after_split, split_off, split}
-use Rattle.spd_cons_core.specs.Invariants.{IsSized, IsSeat, IsSound, Keeps, times_listed, shares, stands_at_end}
+use Rattle.spd_cons_core.specs.Invariants.{IsSized, IsSeat, IsSoundMachine, Keeps, times_listed, shares, stands_at_end}
 use Rattle.spd_cons_core.proofs.Writes.{total_set, total_same, share_of}
 use Rattle.spd_cons_core.proofs.Growth.{Grows, LeavesSpare, known_moved, grow_claimed, search_moved}
 use Rattle.spd_cons_core.proofs.Quiet.{keeps_same, none≢some, seats_changed, spares_changed, spare_kept}
@@ -33,7 +33,7 @@ leaves_seats c l seat was = record { words = λ e is. refl; unpublished = λ e i
 pub nothing_contained : {A : Type 0} (x : A) → Contains [] x → ⊥
 nothing_contained x at = omega (arith, at.1)
 
-splits : (c : Machine) (i : ℕ) → IsSized c → IsSound c → (seat_at c i).live ≡ true → 0 < (seat_at c i).splits
+splits : (c : Machine) (i : ℕ) → IsSized c → IsSoundMachine c → (seat_at c i).live ≡ true → 0 < (seat_at c i).splits
     → Keeps c (record c { seats = set c.seats i (after_split (seat_at c i)) ++ split_off (seat_at c i) ∷ [] })
 splits c i sized sound live some =
     let seat : Seat = seat_at c i in
@@ -113,7 +113,7 @@ splits c i sized sound live some =
     }
 
 -- a split keeps the invariant
-pub split_keeps : (c : Machine) (i : ℕ) → IsSized c → IsSound c → Keeps c (split c i)
+pub split_keeps : (c : Machine) (i : ℕ) → IsSized c → IsSoundMachine c → Keeps c (split c i)
 split_keeps c i sized sound =
     cond_both (can_split (seat_at c i)) _ c (Keeps c)
     (λ can. let all = and_parts (seat_at c i).live _ can in

@@ -6,10 +6,10 @@ use Rattle.std.proofs.lemmas.List.Elements.{All-set}
 use Rattle.spd_cons_core.specs.declared.key.Entry.{Entry}
 use Rattle.spd_cons_core.specs.declared.mind.Call.{Call}
 use Rattle.spd_cons_core.specs.Views.{Seat, Machine}
-use Rattle.spd_cons_core.specs.Spelling.{words_of, start_of}
+use Rattle.spd_cons_core.specs.Spelling.{words_of, first_bucket}
 use Rattle.spd_cons_core.specs.Seats.{seat_at, bucket_count, entry, entry_words}
 use Rattle.spd_cons_core.specs.Events.{can_store, store_in, store_content}
-use Rattle.spd_cons_core.specs.Invariants.{IsSized, IsPassed, IsSearch, IsSeat, IsSound, Keeps, times_listed, shares, stands_at_end}
+use Rattle.spd_cons_core.specs.Invariants.{IsSized, IsPassed, IsSearch, IsSeat, IsSoundMachine, Keeps, times_listed, shares, stands_at_end}
 use Rattle.spd_cons_core.proofs.Writes.{total_same}
 use Rattle.spd_cons_core.proofs.Growth.{Grows, LeavesSpare, known_moved, grow_claimed, grow_passed}
 use Rattle.spd_cons_core.proofs.Quiet.{keeps_same, none≢some, some_same, seats_changed, spares_changed, spare_kept}
@@ -30,7 +30,7 @@ record IsStoring (c : Machine) (i : ℕ) (call : Call) (spare : Entry) (word : �
   next : word ≡ call.stored
   below : call.stored < 5
 
-grows : (c : Machine) (i : ℕ) (spare : Entry) (word value : ℕ) (w : Seat) → IsSound c → (seat_at c i).live ≡ true → (seat_at c i).spare ≡ Some spare → Grows c (with_word c i spare.0 word value w)
+grows : (c : Machine) (i : ℕ) (spare : Entry) (word value : ℕ) (w : Seat) → IsSoundMachine c → (seat_at c i).live ≡ true → (seat_at c i).spare ≡ Some spare → Grows c (with_word c i spare.0 word value w)
 grows c i spare word value w sound live is = record {
   limit = refl;
   most = refl;
@@ -41,7 +41,7 @@ grows c i spare word value w sound live is = record {
       (λ same. ((sound.seats i live).spare spare is).unpublished b (names ∙ ap (λ n. n + 1) same));
 }
 
-leaves : (c : Machine) (i : ℕ) (spare : Entry) (word value : ℕ) (w : Seat) → IsSound c → (seat_at c i).live ≡ true → (seat_at c i).spare ≡ Some spare
+leaves : (c : Machine) (i : ℕ) (spare : Entry) (word value : ℕ) (w : Seat) → IsSoundMachine c → (seat_at c i).live ≡ true → (seat_at c i).spare ≡ Some spare
     → (j : ℕ) → j ≢ i → (seat_at c j).live ≡ true → LeavesSpare c (with_word c i spare.0 word value w) (seat_at c j)
 leaves c i spare word value w sound live is j other there = record {
   words = λ e its. get_or-set_other c.entries spare.0 e.0 (set (entry_words c spare.0) word value) []
@@ -50,7 +50,7 @@ leaves c i spare word value w sound live is j other there = record {
 }
 
 -- the words of the spare after this one
-stored_more : (c : Machine) (i : ℕ) (call : Call) (spare : Entry) (word : ℕ) (w : Seat) → IsSized c → IsSound c → IsStoring c i call spare word
+stored_more : (c : Machine) (i : ℕ) (call : Call) (spare : Entry) (word : ℕ) (w : Seat) → IsSized c → IsSoundMachine c → IsStoring c i call spare word
     → take (call.stored + 1) (entry_words (with_word c i spare.0 word (get_or (words_of call.key) word 0) w) spare.0) ≡ take (call.stored + 1) (words_of call.key)
 stored_more c i call spare word w sized sound may =
     let was = sound.seats i may.live in
@@ -68,7 +68,7 @@ stored_more c i call spare word w sized sound may =
     ∙ (ap (λ l. l ++ get_or key call.stored 0 ∷ []) ((was.search call may.in_call).stored spare may.has_spare)
     ∙ sym (take_more key call.stored 0 (omega arith))))
 
-stores : (c : Machine) (i : ℕ) (call : Call) (spare : Entry) (word : ℕ) → IsSized c → IsSound c → IsStoring c i call spare word
+stores : (c : Machine) (i : ℕ) (call : Call) (spare : Entry) (word : ℕ) → IsSized c → IsSoundMachine c → IsStoring c i call spare word
     → Keeps c (with_word c i spare.0 word (get_or (words_of call.key) word 0) (record (seat_at c i) { call = Some (more_stored call) }))
 stores c i call spare word sized sound may =
     let seat : Seat = seat_at c i in
@@ -123,7 +123,7 @@ stores c i call spare word sized sound may =
         named_once = sound.named_once;
         listed_once = λ b e names. listed e ∙ sound.listed_once b e names;
         listed_never = λ e never. listed e ∙ sound.listed_never e never;
-        filled_from_start = λ b e k names within passed. sound.filled_from_start b e k names within (subst (λ l. IsPassed (start_of l (bucket_count c)) b k) (g.words b e names) passed);
+        filled_from_start = λ b e k names within passed. sound.filled_from_start b e k names within (subst (λ l. IsPassed (first_bucket l (bucket_count c)) b k) (g.words b e names) passed);
         distinct_keys = λ a b e h names names' same. sound.distinct_keys a b e h names names' (sym (g.words a e names) ∙ (same ∙ g.words b h names'));
         seats = seats_changed c d g sound i w live mine (leaves c i spare word value w sound live may.has_spare);
         own_spare = spares_changed c sound i w live (spare_kept c sound i w live refl);
@@ -135,7 +135,7 @@ stores c i call spare word sized sound may =
       stays = record { limit = refl; most = refl; count = refl; buckets = λ b full. refl; words = g.words };
     }
 
-in_spare : (c : Machine) (i word : ℕ) → IsSized c → IsSound c → (o : Option Call) (s : Option Entry) → (seat_at c i).call ≡ o → (seat_at c i).spare ≡ s → Keeps c (store_in c i word o s)
+in_spare : (c : Machine) (i word : ℕ) → IsSized c → IsSoundMachine c → (o : Option Call) (s : Option Entry) → (seat_at c i).call ≡ o → (seat_at c i).spare ≡ s → Keeps c (store_in c i word o s)
 in_spare c i word sized sound None s is has = keeps_same c sized sound
 in_spare c i word sized sound (Some call) None is has = keeps_same c sized sound
 in_spare c i word sized sound (Some call) (Some spare) is has =
@@ -148,5 +148,5 @@ in_spare c i word sized sound (Some call) (Some spare) is has =
     (λ _. keeps_same c sized sound)
 
 -- a word that is stored keeps the invariant
-pub store_content_keeps : (c : Machine) (i word : ℕ) → IsSized c → IsSound c → Keeps c (store_content c i word)
+pub store_content_keeps : (c : Machine) (i word : ℕ) → IsSized c → IsSoundMachine c → Keeps c (store_content c i word)
 store_content_keeps c i word sized sound = in_spare c i word sized sound (seat_at c i).call (seat_at c i).spare refl refl

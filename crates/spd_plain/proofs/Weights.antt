@@ -1,85 +1,99 @@
--- Sums weighted by chances: no more in magnitude than the greatest of the values.
-use Rattle.std.proofs.Common.{◌≡◌, ◌⊎◌, inl, inr, ℕ, zero, suc, ◌+◌, ◌<◌, ◌≤◌, List, length, ℤ, pos, ◌+ℤ◌, ◌*ℤ◌, ◌≤ℤ◌, ap, sym, subst, arith, slice_index_or, FitsSigned, add-one}
+-- Sums of values weighted by the chances of one variable's values: they fit 128 bits.
+use Rattle.std.proofs.Common.{◌≡◌, ℕ, suc, ◌+◌, ◌*◌, ◌<◌, ◌≤◌, ◌-◌, ◌++◌, List, length, take, replicate, All, ℤ, pos, ◌+ℤ◌, ◌*ℤ◌, ◌≤ℤ◌, ap, sym, ◌∙◌, subst, arith, below_more, length-append, FitsSigned, add-one, slice_index_or}
 use Rattle.std.proofs.lemmas.Int.{ints}
+use Rattle.std.proofs.lemmas.List.{take_all, length-replicate, get_or-replicate, get_or_append_left, get_or-append-add}
+use Rattle.std.proofs.Math.Nat.{mul-le-mul_right}
 use mir.Syntax.{w128}
 use Rattle.spd_scaled.specs.Scaled.{IsWithin}
-use Rattle.spd_scaled.proofs.Ring.{*ℤ_mono, zero-*ℤ}
-use Rattle.spd_scaled.proofs.Magnitude.{IsWithin_mono, IsWithin-*ℤ, IsWithin-weighted_more, fits_within}
+use Rattle.spd_scaled.proofs.CallerLemmas.Ring.{*ℤ_mono}
+use Rattle.spd_scaled.proofs.CallerLemmas.Magnitude.{IsWithin_mono, IsWithin-*ℤ, fits_within}
 use Rattle.spd_model.specs.Numbers.{sum_below}
 use Rattle.spd_model.specs.Chances.{one}
 use Rattle.spd_model.specs.Turns.{value_limit}
-use Rattle.spd_plain.specs.Outlooks.{IsDistribution, AreBounded}
+use Rattle.spd_model.proofs.CallerLemmas.Sums.{sum_below-cong, sum_below_grows, sum_below_within}
+use Rattle.spd_plain.specs.Expectations.{entry, weighted, AreWeights}
 
-split_last : (m n : ℕ) → m ≤ suc n → (m ≤ n) ⊎ (m ≡ suc n)
-split_last m n h = grind arith
+-- the place of an entry is below the number of entries
+pub entry_below : (v size k after : ℕ) → v < size → k < after → v * after + k < size * after
+entry_below v size k after h near = let more = mul-le-mul_right after h in omega (arith, more)
 
-grown : (x y z : ℤ) → x ≤ℤ y → pos 0 ≤ℤ z → x ≤ℤ (y +ℤ z)
-grown x y z h k = omega (arith, ints)
-
-same_≤ℤ : (x y : ℤ) → x ≡ y → x ≤ℤ y
-same_≤ℤ x y h = omega (arith, ints)
-
--- a sum of numbers of at least 0 doesn't fall
-pub sum_below_grows : (c : ℕ → ℤ) (m n : ℕ) → ((v : ℕ) → v < n → pos 0 ≤ℤ c v) → m ≤ n → sum_below m c ≤ℤ sum_below n c
-sum_below_grows c m zero h p = let e : m ≡ 0 = omega arith in same_≤ℤ _ _ (ap (λ (k : ℕ). sum_below k c) e)
-sum_below_grows c m (suc n) h p =
-    elim (split_last m n p) [
-      | inl q ↦ grown (sum_below m c) (sum_below n c) (c n) (sum_below_grows c m n (λ v l. h v (omega arith)) q) (h n (omega arith))
-      | inr e ↦ same_≤ℤ _ _ (ap (λ (k : ℕ). sum_below k c) e)
-    ]
-
--- a weighted sum of values within b is within the sum of the weights times b
-pub sum_below_within : (c w : ℕ → ℤ) (b : ℤ) (n : ℕ) → ((v : ℕ) → v < n → pos 0 ≤ℤ c v) → ((v : ℕ) → v < n → IsWithin b (w v))
-    → IsWithin (sum_below n c *ℤ b) (sum_below n (λ v. c v *ℤ w v))
-sum_below_within c w b zero h k = record { low = omega (arith, ints, zero-*ℤ b); high = omega (arith, ints, zero-*ℤ b) }
-sum_below_within c w b (suc n) h k =
-    IsWithin-weighted_more (sum_below n (λ v. c v *ℤ w v)) (sum_below n c) (c n) (w n) b
-    (sum_below_within c w b n (λ v l. h v (omega arith)) (λ v l. k v (omega arith))) (h n (omega arith)) (k n (omega arith))
-
-module _ (chances values : List ℤ) (d : IsDistribution chances) (bounded : AreBounded values) where
+module _ (size after : ℕ) (chances values : List ℤ) (weights : AreWeights size after chances) (count : length values ≡ size * after)
+    (bounded : All (IsWithin (pos value_limit)) values) (k : ℕ) (near : k < after) where
   chance : ℕ → ℤ
-  chance v = slice_index_or chances v (pos 0)
+  chance v = entry after chances v k
 
-  term : ℕ → ℤ
-  term v = slice_index_or chances v (pos 0) *ℤ slice_index_or values v (pos 0)
+  value : ℕ → ℤ
+  value v = entry after values v k
 
-  part_of_one : (n : ℕ) → n ≤ length chances → sum_below n (λ v. slice_index_or chances v (pos 0)) ≤ℤ one
+  limited : (v : ℕ) → v < size → IsWithin (pos value_limit) (entry after values v k)
+  limited v h = bounded (v * after + k) (pos 0) (omega (arith, entry_below v size k after h near))
+
+  part_of_one : (n : ℕ) → n ≤ size → sum_below n (λ v. entry after chances v k) ≤ℤ one
   part_of_one n p =
-      subst (λ x. sum_below n (λ v. slice_index_or chances v (pos 0)) ≤ℤ x) d.whole
-      (sum_below_grows (λ v. slice_index_or chances v (pos 0)) n (length chances) (λ v l. d.nonnegative v) p)
+      subst (λ x. sum_below n (λ v. entry after chances v k) ≤ℤ x) (weights.whole k near)
+      (sum_below_grows (λ v. entry after chances v k) n size (λ v h. weights.nonnegative v k h near) p)
 
   scaled : (x : ℤ) → x ≤ℤ one → (x *ℤ pos value_limit) ≤ℤ (one *ℤ pos value_limit)
   scaled x h = *ℤ_mono x one (pos value_limit) (omega (arith, ints)) h
 
-  pub part_within : (n : ℕ) → n ≤ length chances
-      → IsWithin (one *ℤ pos value_limit) (sum_below n (λ v. slice_index_or chances v (pos 0) *ℤ slice_index_or values v (pos 0)))
+  pub part_within : (n : ℕ) → n ≤ size → IsWithin (one *ℤ pos value_limit) (sum_below n (λ v. entry after chances v k *ℤ entry after values v k))
   part_within n p =
       IsWithin_mono _ (one *ℤ pos value_limit) _ (scaled _ (part_of_one n p))
-      (sum_below_within (λ v. slice_index_or chances v (pos 0)) (λ v. slice_index_or values v (pos 0)) (pos value_limit) n (λ v l. d.nonnegative v) (λ v l. bounded.each v))
+      (sum_below_within (λ v. entry after chances v k) (λ v. entry after values v k) (pos value_limit) n
+      (λ v h. weights.nonnegative v k (omega arith) near) (λ v h. limited v (omega arith)))
 
   last_part : (s c : ℤ) → pos 0 ≤ℤ s → (s +ℤ c) ≤ℤ one → c ≤ℤ one
   last_part s c p h = omega (arith, ints)
 
-  one_chance : (v : ℕ) → v < length chances → slice_index_or chances v (pos 0) ≤ℤ one
-  one_chance v p = last_part (sum_below v (λ k. slice_index_or chances k (pos 0))) _
-      (sum_below_grows (λ k. slice_index_or chances k (pos 0)) 0 v (λ k l. d.nonnegative k) (omega arith)) (part_of_one (suc v) (omega arith))
+  one_chance : (v : ℕ) → v < size → entry after chances v k ≤ℤ one
+  one_chance v h = last_part (sum_below v (λ j. entry after chances j k)) _
+      (sum_below_grows (λ j. entry after chances j k) 0 v (λ j l. weights.nonnegative j k (omega arith) near) (omega arith)) (part_of_one (suc v) (omega arith))
 
-  pub term_within : (v : ℕ) → v < length chances
-      → IsWithin (one *ℤ pos value_limit) (slice_index_or chances v (pos 0) *ℤ slice_index_or values v (pos 0))
-  term_within v p =
-      IsWithin_mono _ (one *ℤ pos value_limit) _ (scaled _ (one_chance v p))
-      (IsWithin-*ℤ (slice_index_or chances v (pos 0)) (pos value_limit) _ (d.nonnegative v) (bounded.each v))
+  pub term_fits : (v : ℕ) → v < size → FitsSigned w128 (entry after chances v k *ℤ entry after values v k)
+  term_fits v h =
+      fits_within w128 (one *ℤ pos value_limit) _ (omega (arith, ints))
+      (IsWithin_mono _ (one *ℤ pos value_limit) _ (scaled _ (one_chance v h)) (IsWithin-*ℤ (entry after chances v k) (pos value_limit) _ (weights.nonnegative v k h near) (limited v h)))
 
-  pub term_fits : (v : ℕ) → v < length chances → FitsSigned w128 (slice_index_or chances v (pos 0) *ℤ slice_index_or values v (pos 0))
-  term_fits v p = fits_within w128 (one *ℤ pos value_limit) _ (omega (arith, ints)) (term_within v p)
+  pub next_sum : (v : ℕ) (sum : ℤ) → sum ≡ sum_below v (λ v. entry after chances v k *ℤ entry after values v k)
+      → sum +ℤ entry after chances v k *ℤ entry after values v k ≡ sum_below (v + 1) (λ v. entry after chances v k *ℤ entry after values v k)
+  next_sum v sum e = rw add-one (ap (λ x. x +ℤ entry after chances v k *ℤ entry after values v k) e)
 
-  pub next_sum : (v : ℕ) (sum : ℤ) → sum ≡ sum_below v (λ v. slice_index_or chances v (pos 0) *ℤ slice_index_or values v (pos 0))
-      → sum +ℤ slice_index_or chances v (pos 0) *ℤ slice_index_or values v (pos 0)
-      ≡ sum_below (v + 1) (λ v. slice_index_or chances v (pos 0) *ℤ slice_index_or values v (pos 0))
-  next_sum v sum e = rw add-one (ap (λ x. x +ℤ slice_index_or chances v (pos 0) *ℤ slice_index_or values v (pos 0)) e)
-
-  pub next_fits : (v : ℕ) (sum : ℤ) → sum ≡ sum_below v (λ v. slice_index_or chances v (pos 0) *ℤ slice_index_or values v (pos 0)) → v < length chances
-      → FitsSigned w128 (sum +ℤ slice_index_or chances v (pos 0) *ℤ slice_index_or values v (pos 0))
-  next_fits v sum e p =
-      subst (FitsSigned w128) (ap (λ x. x +ℤ slice_index_or chances v (pos 0) *ℤ slice_index_or values v (pos 0)) (sym e))
+  pub next_fits : (v : ℕ) (sum : ℤ) → sum ≡ sum_below v (λ v. entry after chances v k *ℤ entry after values v k) → v < size
+      → FitsSigned w128 (sum +ℤ entry after chances v k *ℤ entry after values v k)
+  next_fits v sum e h =
+      subst (FitsSigned w128) (ap (λ x. x +ℤ entry after chances v k *ℤ entry after values v k) (sym e))
       (fits_within w128 (one *ℤ pos value_limit) _ (omega (arith, ints)) (part_within (suc v) (omega arith)))
+
+-- the sums at k read no entry before k
+pub weighted_same : (size after : ℕ) (chances xs ys : List ℤ) (k : ℕ) → ((j : ℕ) → k ≤ j → slice_index_or xs j (pos 0) ≡ slice_index_or ys j (pos 0))
+    → weighted size after chances xs k ≡ weighted size after chances ys k
+weighted_same size after chances xs ys k same =
+    sum_below-cong size (λ v. entry after chances v k *ℤ entry after xs v k) (λ v. entry after chances v k *ℤ entry after ys v k)
+    (λ v h. ap (λ x. entry after chances v k *ℤ x) (same (v * after + k) (omega arith)))
+
+-- One more entry, spread over `after` places.
+module _ (after v n : ℕ) (x : ℤ) (xs kept : List ℤ) (len : length xs ≡ v * after) (counted : n ≡ length xs) (is : x ≡ slice_index_or kept v (pos 0))
+    (each : (u k : ℕ) → u < v → k < after → slice_index_or xs (u * after + k) (pos 0) ≡ slice_index_or kept u (pos 0)) where
+  abbrev pub spread_list : List ℤ
+  spread_list = take ((v + 1) * after) xs ++ replicate ((v + 1) * after - n) x
+
+  spread_is : spread_list ≡ xs ++ replicate after x
+  spread_is =
+      let count : (v + 1) * after - n ≡ after = omega arith in
+      (λ i. take_all ((v + 1) * after) xs (omega arith) i ++ replicate (count i) x)
+
+  pub length-spread : length spread_list ≡ (v + 1) * after
+  length-spread = ap length spread_is ∙ length-append xs (replicate after x) ∙ omega (arith, length-replicate after x)
+
+  old_entry : (u k : ℕ) → u < v → k < after → slice_index_or (xs ++ replicate after x) (u * after + k) (pos 0) ≡ slice_index_or kept u (pos 0)
+  old_entry u k h near = get_or_append_left xs (replicate after x) (pos 0) (u * after + k) (omega (arith, entry_below u v k after h near)) ∙ each u k h near
+
+  new_entry : (k : ℕ) → k < after → slice_index_or (xs ++ replicate after x) (v * after + k) (pos 0) ≡ slice_index_or kept v (pos 0)
+  new_entry k near =
+      ap (λ (j : ℕ). slice_index_or (xs ++ replicate after x) (j + k) (pos 0)) (sym len) ∙ get_or-append-add xs (replicate after x) k (pos 0)
+      ∙ get_or-replicate after k x (pos 0) near ∙ is
+
+  pub entry-spread : (u k : ℕ) → u < v + 1 → k < after → slice_index_or spread_list (u * after + k) (pos 0) ≡ slice_index_or kept u (pos 0)
+  entry-spread u k h near =
+      ap (λ (l : List ℤ). slice_index_or l (u * after + k) (pos 0)) spread_is
+      ∙ below_more (λ u. slice_index_or (xs ++ replicate after x) (u * after + k) (pos 0) ≡ slice_index_or kept u (pos 0)) v (λ u p. old_entry u k p near) (new_entry k near) u h

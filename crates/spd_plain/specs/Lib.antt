@@ -1,5 +1,9 @@
 pub mod Bounds
-pub mod Outlooks
+pub mod Space
+pub mod Reach
+pub mod Chances
 pub mod Faults
+pub mod Outlooks
+pub mod Expectations
 pub mod Sweeps
 pub mod Plain

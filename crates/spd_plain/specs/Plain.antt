@@ -1,5 +1,5 @@
 -- What value iteration on plain tables ends with.
-use Rattle.std.specs.Prelude.{ℕ, ◌≡◌, ◌==◌, length, ℤ, Some, None, MatchResult, Result, slice_index}
+use Rattle.std.specs.Prelude.{ℕ, ◌≡◌, ◌<◌, ◌≤◌, ◌==◌, length, ℤ, Some, None, MatchResult, Result, slice_index}
 use Rattle.std.specs.Ordering.{int_eq}
 use Rattle.spd_model.specs.Process.{Process}
 use Rattle.spd_model.specs.States.{sizes, table_of, at, rank, state_count, IsState}
@@ -11,7 +11,8 @@ use Rattle.spd_model.specs.Reduced.{listed, reduced}
 use Rattle.spd_model.specs.ResultText.{Iterate}
 use Rattle.spd_plain.specs.declared.solve.Plain.{Plain}
 use Rattle.spd_plain.specs.declared.solve.PlainFault.{PlainFault}
-use Rattle.spd_plain.specs.declared.solve.PlainFault.TheVariants.{Sum, Range, Memory}
+use Rattle.spd_plain.specs.declared.solve.PlainFault.TheVariants.{TooManyStates, Sum, Range, Memory}
+use Rattle.spd_plain.specs.Space.{state_limit, first_large_product}
 
 -- The result: the turn at which the run stops and its table, the table's policy, its residual with the place, and the error.
 abbrev pub plain_of : Process → ℕ → ℤ → Plain
@@ -43,17 +44,21 @@ told_of m p = record {
   policy = listed (λ a b. a == b) (reduced (λ a b. a == b) (sizes m) (λ s. slice_index p.policy (rank (sizes m) s)));
 }
 
--- The cause of a fault: the model's first wrong sum; where all sums are one, its first reward that passes the limit.
--- Want of memory has no cause in the model.
+-- The cause of a fault: more states than the limit, with the first product of leading variables' sizes that passes it; where there
+-- aren't, the model's first wrong sum; where all sums are one, its first reward that passes the limit. Want of memory has no cause
+-- in the model.
 abbrev pub FaultCause : Process → PlainFault → Type 0
-FaultCause m (Sum action var state sum) = first_wrong_sum m ≡ Some (record { action = action; var = var; state = state; sum = sum })
-FaultCause m (Range action state value) =
-    (first_wrong_sum m ≡ None) × (first_wide_reward m ≡ Some (record { action = action; state = state; value = value }))
+FaultCause m (TooManyStates product) = (state_limit < state_count (sizes m)) × (first_large_product m ≡ Some product)
+FaultCause m (Sum action var state sum) = (state_count (sizes m) ≤ state_limit)
+    × (first_wrong_sum m ≡ Some (record { action = action; var = var; state = state; sum = sum }))
+FaultCause m (Range action state value) = (state_count (sizes m) ≤ state_limit) × (first_wrong_sum m ≡ None)
+    × (first_wide_reward m ≡ Some (record { action = action; state = state; value = value }))
 FaultCause m Memory = Unit {0}
 
--- the cause of an answer: a value comes only where no sum is wrong and no reward passes its limit
+-- the cause of an answer: a value comes only where the states are few enough, no sum is wrong and no reward passes its limit
 abbrev pub Cause : Process → Result Plain PlainFault → Type 0
-Cause m result = MatchResult result (λ p. (first_wrong_sum m ≡ None) × (first_wide_reward m ≡ None)) (FaultCause m)
+Cause m result =
+    MatchResult result (λ p. (state_count (sizes m) ≤ state_limit) × (first_wrong_sum m ≡ None) × (first_wide_reward m ≡ None)) (FaultCause m)
 
 -- value and policy have an entry for each state, and the residual's place is a state
 pub record IsShaped (m : Process) (p : Plain) : Type 0 where
@@ -61,14 +66,16 @@ pub record IsShaped (m : Process) (p : Plain) : Type 0 where
   pub policy : length p.policy ≡ state_count (sizes m)
   pub place : IsState (sizes m) p.place
 
--- a fault but want of memory is of a model that isn't valid
+-- a wrong sum or a wide reward is of a model that isn't valid
 abbrev pub IsInvalid : Process → PlainFault → Type 0
+IsInvalid m (TooManyStates product) = Unit {0}
 IsInvalid m (Sum action var state sum) = IsValid m → ⊥
 IsInvalid m (Range action state value) = IsValid m → ⊥
 IsInvalid m Memory = Unit {0}
 
 -- the state of a fault is a state
 abbrev pub IsPlaced : Process → PlainFault → Type 0
+IsPlaced m (TooManyStates product) = Unit {0}
 IsPlaced m (Sum action var state sum) = IsState (sizes m) state
 IsPlaced m (Range action state value) = IsState (sizes m) state
 IsPlaced m Memory = Unit {0}

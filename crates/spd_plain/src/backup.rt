@@ -1,98 +1,125 @@
 //! The Bellman backup at one state.
 
-ghost use Rattle.std.specs.Prelude.{◌≡◌, ◌≤◌, ◌<◌, ◌*◌, length, map, pos, All};
-ghost use Rattle.spd_scaled.specs.Scaled.{IsWithin, floor_div as floor_of, ceil_div as ceil_of};
-ghost use Rattle.spd_model.specs.Numbers.{greatest, first_place};
+ghost use Rattle.std.specs.Prelude.{◌≡◌, ◌<◌, length, map, pos, Contains, IfOk};
+ghost use Rattle.spd_scaled.specs.Scaled.{IsWithin};
+ghost use Rattle.spd_model.specs.Numbers.{greatest};
+ghost use Rattle.spd_model.specs.States.{sizes, at, IsState};
+ghost use Rattle.spd_model.specs.Backup.{low_of, high_of, best_low, best_high};
 ghost use Rattle.spd_model.specs.Turns.{value_limit};
-ghost use Rattle.spd_plain.specs.Outlooks.{AreBounded, AreOutlooks, IsDistribution, IsOutlook, weighted, return_by, rounding_of};
+ghost use Rattle.spd_plain.specs.Outlooks.{outlook_of, outlooks_at};
+ghost use Rattle.spd_plain.specs.Sweeps.{CanSweep, bound_on, action_on, AreLimited};
 
+use crate::expectation::{Work, expect};
 use crate::outlook::Outlook;
 use crate::ranges::Bounds;
-use crate::scales::{DISCOUNT_ONE, ONE};
-use spd_model::Side;
+use crate::scales::DISCOUNT_ONE;
+use crate::space::Space;
+use spd_model::{Action, Model, Side, State};
 use spd_scaled::{ceil_div, floor_div};
+use std::alloc::AllocError;
 
-/// The sum of the chance of each next value times what `values` has there.
-fn weighted_sum(chances: &[i128], values: &[i128]) -> i128
-    requires lengths { length values.now ≡ length chances.now }
-    requires chances { IsDistribution chances.now }
-    requires values { AreBounded values.now }
-    ensures sum { result ≡ weighted chances.now values.now }
-    ensures within { IsWithin (pos (value_limit * 1000000000000)) result }
+/// The lower and the upper bound of the return of `action` at `s`, where `values` follows.
+fn bounds_of(
+    model: &Model,
+    action: &Action,
+    outlook: &Outlook,
+    s: &State,
+    space: &Space,
+    values: &[i128],
+    work: &mut Work,
+) -> Result<Bounds, AllocError>
+    requires values { CanSweep model.now space.now values.now }
+    requires action { Contains model.now.actions action.now }
+    requires outlook { outlook.now ≡ outlook_of model.now s.now action.now }
+    requires state { IsState (sizes model.now) s.now }
+    ensures low { IfOk result (λ bounds. bounds.low ≡ low_of model.now (at (sizes model.now) values.now) action.now s.now) }
+    ensures high { IfOk result (λ bounds. bounds.high ≡ high_of model.now (at (sizes model.now) values.now) action.now s.now) }
+    ensures limited { IfOk result AreLimited }
 {
-    let mut sum = 0;
-    for value in 0..chances.len() {
-        sum += chances[value] * values[value];
-    }
-    sum
-}
-
-/// The lower and the upper bound of an action's return, where `values` follows.
-fn bounds_of(outlook: &Outlook, discount: u32, values: &[i128]) -> Bounds
-    requires lengths { length values.now ≡ length outlook.now.chances }
-    requires outlook { IsOutlook outlook.now }
-    requires discount { discount ≤ 999999 }
-    requires values { AreBounded values.now }
-    ensures low { result.low ≡ return_by floor_of discount values.now outlook.now }
-    ensures high { result.high ≡ return_by ceil_of discount values.now outlook.now }
-{
-    let sum = weighted_sum(outlook.chances.as_slice(), values);
-    let discount = discount as i128;
-    Bounds {
-        low: outlook.reward + floor_div(discount * floor_div(sum, ONE), DISCOUNT_ONE),
-        high: outlook.reward + ceil_div(discount * ceil_div(sum, ONE), DISCOUNT_ONE),
-    }
+    expect(model, action, outlook, s, space, values, work)?;
+    let discount = model.discount as i128;
+    Ok(Bounds {
+        low: outlook.reward + floor_div(discount * work.low[0], DISCOUNT_ONE),
+        high: outlook.reward + ceil_div(discount * work.high[0], DISCOUNT_ONE),
+    })
 }
 
 /// The greatest lower and the greatest upper bound over all actions.
-pub(crate) fn best_bounds(outlooks: &[Outlook], discount: u32, values: &[i128]) -> Bounds
-    requires outlooks { AreOutlooks values.now outlooks.now }
-    requires discount { discount ≤ 999999 }
-    requires values { AreBounded values.now }
-    ensures low { result.low ≡ greatest (map (return_by floor_of discount values.now) outlooks.now) }
-    ensures high { result.high ≡ greatest (map (return_by ceil_of discount values.now) outlooks.now) }
+pub(crate) fn best_bounds(
+    model: &Model,
+    outlooks: &[Outlook],
+    s: &State,
+    space: &Space,
+    values: &[i128],
+    work: &mut Work,
+) -> Result<Bounds, AllocError>
+    requires values { CanSweep model.now space.now values.now }
+    requires outlooks { outlooks.now ≡ outlooks_at model.now s.now }
+    requires state { IsState (sizes model.now) s.now }
+    ensures low { IfOk result (λ bounds. bounds.low ≡ best_low model.now (at (sizes model.now) values.now) s.now) }
+    ensures high { IfOk result (λ bounds. bounds.high ≡ best_high model.now (at (sizes model.now) values.now) s.now) }
+    ensures limited { IfOk result AreLimited }
 {
-    let mut best = bounds_of(&outlooks[0], discount, values);
-    for outlook in &outlooks[1..] {
-        let bounds = bounds_of(outlook, discount, values);
+    let actions = model.actions.as_slice();
+    let mut best = bounds_of(model, &actions[0], &outlooks[0], s, space, values, work)?;
+    for number in 1..actions.len() {
+        let bounds = bounds_of(model, &actions[number], &outlooks[number], s, space, values, work)?;
         best.low = best.low.max(bounds.low);
         best.high = best.high.max(bounds.high);
     }
-    best
+    Ok(best)
 }
 
-/// The bound of an action's return on a side, where `values` follows.
-fn bound_of(outlook: &Outlook, discount: u32, values: &[i128], side: Side) -> i128
-    requires lengths { length values.now ≡ length outlook.now.chances }
-    requires outlook { IsOutlook outlook.now }
-    requires discount { discount ≤ 999999 }
-    requires values { AreBounded values.now }
-    ensures { result ≡ return_by (rounding_of side) discount values.now outlook.now }
+/// The bound of the return of `action` at `s` on a side, where `values` follows.
+fn bound_of(
+    model: &Model,
+    action: &Action,
+    outlook: &Outlook,
+    s: &State,
+    space: &Space,
+    values: &[i128],
+    side: Side,
+    work: &mut Work,
+) -> Result<i128, AllocError>
+    requires values { CanSweep model.now space.now values.now }
+    requires action { Contains model.now.actions action.now }
+    requires outlook { outlook.now ≡ outlook_of model.now s.now action.now }
+    requires state { IsState (sizes model.now) s.now }
+    ensures { IfOk result (λ bound. bound ≡ bound_on side model.now (at (sizes model.now) values.now) action.now s.now) }
 {
-    let bounds = bounds_of(outlook, discount, values);
-    match side {
+    let bounds = bounds_of(model, action, outlook, s, space, values, work)?;
+    Ok(match side {
         Side::Above => bounds.high,
         Side::Below => bounds.low,
-    }
+    })
 }
 
 /// The number of the first action that has the greatest bound on a side.
-pub(crate) fn best_action(outlooks: &[Outlook], discount: u32, values: &[i128], side: Side) -> u32
-    requires outlooks { AreOutlooks values.now outlooks.now }
-    requires discount { discount ≤ 999999 }
-    requires values { AreBounded values.now }
-    ensures { let bounds = map (return_by (rounding_of side) discount values.now) outlooks.now in result ≡ first_place (greatest bounds) bounds }
+pub(crate) fn best_action(
+    model: &Model,
+    outlooks: &[Outlook],
+    s: &State,
+    space: &Space,
+    values: &[i128],
+    side: Side,
+    work: &mut Work,
+) -> Result<u32, AllocError>
+    requires values { CanSweep model.now space.now values.now }
+    requires outlooks { outlooks.now ≡ outlooks_at model.now s.now }
+    requires state { IsState (sizes model.now) s.now }
+    ensures { IfOk result (λ action. action ≡ action_on side model.now (at (sizes model.now) values.now) s.now) }
 {
-    let mut best = bound_of(&outlooks[0], discount, values, side);
-    let mut action = 0;
-    for number in 1..outlooks.len() {
-        let bound = bound_of(&outlooks[number], discount, values, side);
+    let actions = model.actions.as_slice();
+    let mut best = bound_of(model, &actions[0], &outlooks[0], s, space, values, side, work)?;
+    let mut first = 0;
+    for number in 1..actions.len() {
+        let bound = bound_of(model, &actions[number], &outlooks[number], s, space, values, side, work)?;
         if best < bound {
             best = bound;
-            action = number as u32;
+            first = number as u32;
         }
     }
-    action
+    Ok(first)
 }
 
 /// The greatest reward over all actions.

@@ -2,11 +2,14 @@
 #![tactic(auto)]
 
 mod backup;
+mod chances;
+mod expectation;
 mod outlook;
 mod ranges;
+mod reach;
 mod scales;
 mod solve;
-mod states;
+mod space;
 mod sweep;
 #[cfg(test)]
 mod tests;

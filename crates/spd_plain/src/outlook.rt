@@ -2,10 +2,14 @@
 
 ghost use Rattle.std.specs.Prelude.{◌≡◌, ◌<◌, length, map, IfOk, Contains};
 ghost use Rattle.spd_model.specs.States.{sizes, IsState};
+ghost use Rattle.spd_plain.specs.Space.{IsSpace};
+ghost use Rattle.spd_plain.specs.Reach.{reaches_after, reaches_of};
 ghost use Rattle.spd_plain.specs.Outlooks.{outlook_of, outlooks_at as outlooks_at_of, outlooks_of};
 
-use crate::states::{state_at, state_count};
-use crate::validity::{chance, reward};
+use crate::chances::{Chances, kept_chances};
+use crate::reach::Reach;
+use crate::space::Space;
+use crate::validity::reward;
 use spd_model::{Action, Model, State};
 use sqlite_items::Items;
 use std::alloc::{AllocError, Global};
@@ -15,8 +19,8 @@ use std::alloc::{AllocError, Global};
 pub struct Outlook {
     /// The reward, in units of 10^-9.
     pub reward: i128,
-    /// The probability of each next value, in units of 10^-12.
-    pub chances: Items<i128>,
+    /// The probabilities of each variable's next values, in the order of the variables.
+    pub chances: Items<Chances>,
 }
 
 /// What `action` comes to at `s`.
@@ -24,17 +28,24 @@ fn outlook_after(
     alloc: Global,
     model: &Model,
     action: &Action,
+    reaches: &[Reach],
     s: &State,
+    space: &Space,
 ) -> Result<Outlook, AllocError>
-    requires one_variable { length model.now.vars ≡ 1 }
     requires action { Contains model.now.actions action.now }
+    requires reaches { reaches.now ≡ reaches_after model.now action.now }
     requires state { IsState (sizes model.now) s.now }
+    requires space { IsSpace model.now space.now }
     ensures { IfOk result (λ outlook. outlook ≡ outlook_of model.now s.now action.now) }
 {
-    let count = state_count(model);
-    let mut chances = Vec::with_capacity(alloc, count)?;
-    for value in 0..count {
-        chances.push(chance(model, action, s, value))?;
+    let axes = space.axes.as_slice();
+    let mut chances = Vec::with_capacity(alloc, axes.len())?;
+    for var in 0..axes.len() {
+        let known = match reaches[var] {
+            Reach::Own => Chances::Kept(kept_chances(alloc, model, action, s, &axes[var], space)?),
+            Reach::Later => Chances::Read,
+        };
+        chances.push(known)?;
     }
     Ok(Outlook {
         reward: reward(model, action, s),
@@ -43,29 +54,41 @@ fn outlook_after(
 }
 
 /// What each action comes to at `s`, one entry per action in order.
-fn outlooks_at(alloc: Global, model: &Model, s: &State) -> Result<Items<Outlook>, AllocError>
-    requires one_variable { length model.now.vars ≡ 1 }
+fn outlooks_at(
+    alloc: Global,
+    model: &Model,
+    reaches: &[Items<Reach>],
+    s: &State,
+    space: &Space,
+) -> Result<Items<Outlook>, AllocError>
+    requires reaches { reaches.now ≡ reaches_of model.now }
     requires state { IsState (sizes model.now) s.now }
+    requires space { IsSpace model.now space.now }
     ensures { IfOk result (λ outlooks. outlooks ≡ outlooks_at_of model.now s.now) }
 {
     let actions = model.actions.as_slice();
     let mut outlooks = Vec::with_capacity(alloc, actions.len())?;
-    for action in actions {
-        outlooks.push(outlook_after(alloc, model, action, s)?)?;
+    for (number, action) in actions.iter().enumerate() {
+        outlooks.push(outlook_after(alloc, model, action, reaches[number].as_slice(), s, space)?)?;
     }
     Ok(Items::from_vec(outlooks))
 }
 
 /// What each action comes to at each state, one row per state in order.
-pub(crate) fn tabulate(alloc: Global, model: &Model) -> Result<Vec<Items<Outlook>>, AllocError>
-    requires one_variable { length model.now.vars ≡ 1 }
+pub(crate) fn tabulate(
+    alloc: Global,
+    model: &Model,
+    reaches: &[Items<Reach>],
+    space: &Space,
+) -> Result<Vec<Items<Outlook>>, AllocError>
+    requires reaches { reaches.now ≡ reaches_of model.now }
+    requires space { IsSpace model.now space.now }
     ensures { IfOk result (λ rows. rows.items ≡ outlooks_of model.now) }
 {
-    let count = state_count(model);
-    let mut rows = Vec::with_capacity(alloc, count)?;
-    for place in 0..count {
-        let s = state_at(model, place);
-        rows.push(outlooks_at(alloc, model, &s)?)?;
+    let states = space.states.as_slice();
+    let mut rows = Vec::with_capacity(alloc, states.len())?;
+    for s in states {
+        rows.push(outlooks_at(alloc, model, reaches, s, space)?)?;
     }
     Ok(rows)
 }

@@ -1,18 +1,23 @@
 //! Value iteration on plain tables.
 
-ghost use Rattle.std.specs.Prelude.{◌≡◌, ◌-◌, ◌≤◌, ◌^◌, length, pos, ◌≤ℤ◌, ◌<ℤ◌, IfOk, IfErr, OnOk};
+ghost use Rattle.std.specs.Prelude.{All, ◌≡◌, ◌-◌, ◌≤◌, ◌^◌, length, pos, ◌≤ℤ◌, ◌<ℤ◌, IfOk, IfErr, OnOk};
 ghost use Rattle.spd_scaled.specs.Scaled.{IsWithin};
 ghost use Rattle.spd_model.specs.Chances.{IsValid};
-ghost use Rattle.spd_model.specs.States.{sizes, at};
+ghost use Rattle.spd_model.specs.States.{sizes, at, state_count};
 ghost use Rattle.spd_model.specs.Turns.{stops_at, error_of as error_of_residual, turn as turn_of, stop_of};
 ghost use Rattle.spd_model.specs.ResultText.{result_of};
 ghost use Rattle.spd_plain.specs.Outlooks.{outlooks_of};
-ghost use Rattle.spd_plain.specs.Sweeps.{CanSweep, IsSweep, stop_record};
+ghost use Rattle.spd_plain.specs.Reach.{reaches_of};
+ghost use Rattle.spd_plain.specs.Space.{IsSpace, state_limit};
+ghost use Rattle.spd_plain.specs.Sweeps.{CanSweep, IsSweep, AreLimited, stop_record};
 ghost use Rattle.spd_plain.specs.Plain.{plain_of, told_of, Cause, IsShaped, IsPlaced, IsInvalid};
 
+use crate::expectation::Work;
 use crate::outlook::{Outlook, tabulate};
 use crate::ranges::merge_ranges;
+use crate::reach::{Reach, reaches};
 use crate::scales::DISCOUNT_ONE;
+use crate::space::{Space, count_states};
 use crate::sweep::{Sweep, policy, residual_place, start, sweep_states};
 use crate::validity::{first_wide_reward, first_wrong_sum};
 use spd_model::{Model, Side, State, Why};
@@ -46,7 +51,10 @@ pub struct Plain {
 /// Why a model has no value function.
 #[derive(Debug, Drop)]
 pub enum PlainFault {
-    /// The probabilities of a variable's next values don't sum to one: the first such action, variable and state, and the sum in units of 10^-12.
+    /// The model has more than 4,096 states: the first product of leading variables' numbers of values that passes this.
+    TooManyStates { product: u32 },
+    /// The probabilities of a variable's next values don't sum to one: the first such action, variable and state, and the sum in units
+    /// of 10^-12, which is that for the first next values of the variables after it at which it isn't one.
     Sum {
         action: u32,
         var: u32,
@@ -103,25 +111,29 @@ fn run_turns(
     alloc: Global,
     model: &Model,
     rows: &[Items<Outlook>],
+    space: &Space,
     turns: u32,
     span: i128,
+    work: &mut Work,
 ) -> Result<Stop, AllocError>
-    requires one_variable { length model.now.vars ≡ 1 }
     requires valid { IsValid model.now }
+    requires few { state_count (sizes model.now) ≤ state_limit }
+    requires space { IsSpace model.now space.now }
     requires rows { rows.now ≡ outlooks_of model.now }
     requires turns { turns ≤ 1000000 }
     requires span_low { pos 0 ≤ℤ span }
     requires span_high { span ≤ℤ pos (10 ^ 30) }
     ensures stop { IfOk result (λ stop. stop_record stop ≡ stop_of model.now turns span) }
     ensures table { IfOk result (λ stop. stop.value.items ≡ turn_of model.now span stop.turn) }
-    ensures values { IfOk result (λ stop. CanSweep model.now rows.now stop.value.items) }
+    ensures values { IfOk result (λ stop. CanSweep model.now space.now stop.value.items) }
     ensures sweep { IfOk result (λ stop. IsSweep model.now stop.value.items stop.sweep) }
+    ensures limited { IfOk result (λ stop. All AreLimited stop.sweep.ranges.items) }
 {
     // Reading a field tells the proof what every model keeps.
     let _vars = &model.vars;
     let mut value = start(alloc, model, rows)?;
     for turn in 0..turns {
-        let sweep = sweep_states(alloc, model, rows, &value)?;
+        let sweep = sweep_states(alloc, model, rows, space, &value, work)?;
         if is_done(model, sweep.residual) {
             return Ok(Stop {
                 turn,
@@ -132,7 +144,7 @@ fn run_turns(
         }
         value = merge_ranges(alloc, &sweep.ranges, span)?;
     }
-    let sweep = sweep_states(alloc, model, rows, &value)?;
+    let sweep = sweep_states(alloc, model, rows, space, &value, work)?;
     let why = if is_done(model, sweep.residual) {
         Why::Done
     } else {
@@ -157,9 +169,18 @@ impl From<AllocError> for PlainFault {
 }
 
 /// The value function, the policy and the residual of a valid model.
-fn solve_valid(alloc: Global, model: &Model, turns: u32, span: i128) -> Result<Plain, AllocError>
-    requires one_variable { length model.now.vars ≡ 1 }
+fn solve_valid(
+    alloc: Global,
+    model: &Model,
+    reaches: &[Items<Reach>],
+    space: &Space,
+    turns: u32,
+    span: i128,
+) -> Result<Plain, AllocError>
     requires valid { IsValid model.now }
+    requires few { state_count (sizes model.now) ≤ state_limit }
+    requires reaches { reaches.now ≡ reaches_of model.now }
+    requires space { IsSpace model.now space.now }
     requires turns { turns ≤ 1000000 }
     requires span_low { pos 0 ≤ℤ span }
     requires span_high { span ≤ℤ pos (10 ^ 30) }
@@ -167,10 +188,11 @@ fn solve_valid(alloc: Global, model: &Model, turns: u32, span: i128) -> Result<P
 {
     // Reading a field tells the proof what every model keeps.
     let _vars = &model.vars;
-    let rows = tabulate(alloc, model)?;
-    let stop = run_turns(alloc, model, &rows, turns, span)?;
-    let policy = policy(alloc, model, &rows, &stop.value)?;
-    let place = residual_place(model, &rows, &stop.value, &stop.sweep);
+    let rows = tabulate(alloc, model, reaches, space)?;
+    let mut work = Work::new(alloc, rows.len())?;
+    let stop = run_turns(alloc, model, &rows, space, turns, span, &mut work)?;
+    let policy = policy(alloc, model, &rows, space, &stop.value, &mut work)?;
+    let place = residual_place(model, &rows, space, &stop.value, &stop.sweep, &mut work)?;
     let residual = stop.sweep.residual;
     Ok(Plain {
         turn: stop.turn,
@@ -187,15 +209,15 @@ fn solve_valid(alloc: Global, model: &Model, turns: u32, span: i128) -> Result<P
 
 /// Runs value iteration on a model, up to the first turn at which the stop rule holds and at most to turn `turns`.
 ///
-/// `span` is the width of the ranges that are merged, in units of 10^-9. A model whose probabilities don't all sum to
-/// one is refused by `Sum`, and one with a reward above 10^18 units by `Range`. `Memory` comes where there is none.
+/// `span` is the width of the ranges that are merged, in units of 10^-9. A model of more than 4,096 states is refused by
+/// `TooManyStates`, then one whose probabilities don't all sum to one by `Sum`, then one with a reward above 10^18 units by `Range`.
+/// `Memory` comes where there is none.
 pub fn plain_solve(
     alloc: Global,
     model: &Model,
     turns: u32,
     span: i128,
 ) -> Result<Plain, PlainFault>
-    requires one_variable { length model.now.vars ≡ 1 }
     requires turns { turns ≤ 1000000 }
     requires span_low { pos 0 ≤ℤ span }
     requires span_high { span ≤ℤ pos (10 ^ 30) }
@@ -209,7 +231,13 @@ pub fn plain_solve(
 {
     // Reading a field tells the proof what every model keeps.
     let _vars = &model.vars;
-    if let Some(wrong) = first_wrong_sum(model) {
+    let count = match count_states(model) {
+        Ok(count) => count,
+        Err(product) => return Err(PlainFault::TooManyStates { product }),
+    };
+    let space = Space::new(alloc, model, count)?;
+    let reaches = reaches(alloc, model)?;
+    if let Some(wrong) = first_wrong_sum(model, &reaches, &space) {
         return Err(PlainFault::Sum {
             action: wrong.action,
             var: wrong.var,
@@ -217,12 +245,12 @@ pub fn plain_solve(
             sum: wrong.sum,
         });
     }
-    if let Some(wide) = first_wide_reward(model) {
+    if let Some(wide) = first_wide_reward(model, &space) {
         return Err(PlainFault::Range {
             action: wide.action,
             state: wide.state,
             value: wide.value,
         });
     }
-    Ok(solve_valid(alloc, model, turns, span)?)
+    Ok(solve_valid(alloc, model, &reaches, &space, turns, span)?)
 }

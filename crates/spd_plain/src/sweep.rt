@@ -1,6 +1,6 @@
 //! A sweep over all states: the Bellman backup of a table, and its residual.
 
-ghost use Rattle.std.specs.Prelude.{◌≡◌, ◌<◌, ◌-ℤ◌, ◌||◌, if◌then◌else◌, [], length, pos, slice_index_or, IfOk};
+ghost use Rattle.std.specs.Prelude.{All, ◌≡◌, ◌<◌, ◌-ℤ◌, ◌||◌, if◌then◌else◌, [], length, pos, slice_index_or, IfOk};
 ghost use Rattle.std.specs.Int.{int_max};
 ghost use Rattle.std.specs.Ordering.{int_eq};
 ghost use Rattle.spd_scaled.specs.Scaled.{IsWithin};
@@ -9,14 +9,14 @@ ghost use Rattle.spd_model.specs.States.{sizes, states, at, table_of, state_coun
 ghost use Rattle.spd_model.specs.Chances.{IsValid};
 ghost use Rattle.spd_model.specs.Backup.{policy_of};
 ghost use Rattle.spd_model.specs.Turns.{value_limit, start_of, place_of, state_of_residual};
-ghost use Rattle.spd_plain.specs.Bounds.{IsSmall};
-ghost use Rattle.spd_plain.specs.Outlooks.{outlooks_of, AreBounded};
-ghost use Rattle.spd_plain.specs.Sweeps.{CanSweep, IsSweep, place_record};
+ghost use Rattle.spd_plain.specs.Outlooks.{outlooks_of};
+ghost use Rattle.spd_plain.specs.Sweeps.{CanSweep, IsSweep, AreLimited, place_record};
 
 use crate::backup::{best_action, best_bounds, best_reward};
+use crate::expectation::Work;
 use crate::outlook::Outlook;
 use crate::ranges::Bounds;
-use crate::states::state_at;
+use crate::space::Space;
 use spd_model::{Model, Side, State};
 use sqlite_items::Items;
 use std::alloc::{AllocError, Global};
@@ -32,7 +32,7 @@ pub struct Sweep {
 
 /// How far a state's bounds lie from its value, above or below it.
 fn gap(bounds: &Bounds, value: i128) -> i128
-    requires bounds { IsSmall bounds.now }
+    requires bounds { AreLimited bounds.now }
     requires value { IsWithin (pos value_limit) value }
     ensures { result ≡ int_max (bounds.now.high -ℤ value) (value -ℤ bounds.now.low) }
 {
@@ -44,15 +44,27 @@ pub(crate) fn sweep_states(
     alloc: Global,
     model: &Model,
     rows: &[Items<Outlook>],
+    space: &Space,
     values: &[i128],
+    work: &mut Work,
 ) -> Result<Sweep, AllocError>
-    requires { CanSweep model.now rows.now values.now }
-    ensures { IfOk result (IsSweep model.now values.now) }
+    requires rows { rows.now ≡ outlooks_of model.now }
+    requires values { CanSweep model.now space.now values.now }
+    ensures sweep { IfOk result (IsSweep model.now values.now) }
+    ensures limited { IfOk result (λ sweep. All AreLimited sweep.ranges.items) }
 {
-    let mut ranges = Vec::with_capacity(alloc, rows.len())?;
+    let states = space.states.as_slice();
+    let mut ranges = Vec::with_capacity(alloc, states.len())?;
     let mut residual: i128 = 0;
-    for place in 0..rows.len() {
-        let bounds = best_bounds(rows[place].as_slice(), model.discount, values);
+    for place in 0..states.len() {
+        let bounds = best_bounds(
+            model,
+            rows[place].as_slice(),
+            &states[place],
+            space,
+            values,
+            work,
+        )?;
         residual = residual.max(gap(&bounds, values[place]));
         ranges.push(bounds)?;
     }
@@ -82,14 +94,20 @@ pub(crate) fn policy(
     alloc: Global,
     model: &Model,
     rows: &[Items<Outlook>],
+    space: &Space,
     values: &[i128],
+    work: &mut Work,
 ) -> Result<Vec<u32>, AllocError>
-    requires { CanSweep model.now rows.now values.now }
+    requires rows { rows.now ≡ outlooks_of model.now }
+    requires values { CanSweep model.now space.now values.now }
     ensures { IfOk result (λ actions. actions.items ≡ table_of (sizes model.now) (policy_of model.now (at (sizes model.now) values.now))) }
 {
-    let mut actions = Vec::with_capacity(alloc, rows.len())?;
-    for row in rows {
-        actions.push(best_action(row.as_slice(), model.discount, values, Side::Below))?;
+    let states = space.states.as_slice();
+    let mut actions = Vec::with_capacity(alloc, states.len())?;
+    for place in 0..states.len() {
+        let outlooks = rows[place].as_slice();
+        let s = &states[place];
+        actions.push(best_action(model, outlooks, s, space, values, Side::Below, work)?)?;
     }
     Ok(actions)
 }
@@ -104,7 +122,7 @@ pub struct ResidualPlace {
 
 /// Whether one of a state's two gaps equals the residual.
 fn has_gap(bounds: &Bounds, value: i128, residual: i128) -> bool
-    requires bounds { IsSmall bounds.now }
+    requires bounds { AreLimited bounds.now }
     requires value { IsWithin (pos value_limit) value }
     ensures { result ≡ (int_eq residual (bounds.now.high -ℤ value) || int_eq residual (value -ℤ bounds.now.low)) }
 {
@@ -113,7 +131,7 @@ fn has_gap(bounds: &Bounds, value: i128, residual: i128) -> bool
 
 /// The side of the residual at a state at which it lies: above where both gaps equal it.
 fn side_of(bounds: &Bounds, value: i128, residual: i128) -> Side
-    requires bounds { IsSmall bounds.now }
+    requires bounds { AreLimited bounds.now }
     requires value { IsWithin (pos value_limit) value }
     ensures { result ≡ (if int_eq residual (bounds.now.high -ℤ value) then Above else Below) }
 {
@@ -126,11 +144,11 @@ fn side_of(bounds: &Bounds, value: i128, residual: i128) -> Side
 
 /// The first state at which one of the two gaps equals the residual, by its place in the order of states.
 fn first_place_of(model: &Model, values: &[i128], sweep: &Sweep) -> usize
-    requires one_variable { length model.now.vars ≡ 1 }
     requires valid { IsValid model.now }
     requires count { length values.now ≡ state_count_of (sizes model.now) }
-    requires bounded { AreBounded values.now }
+    requires bounded { All (IsWithin (pos value_limit)) values.now }
     requires sweep { IsSweep model.now values.now sweep.now }
+    requires limited { All AreLimited sweep.now.ranges.items }
     ensures within { result < state_count_of (sizes model.now) }
     ensures first { slice_index_or (states (sizes model.now)) result [] ≡ state_of_residual model.now (at (sizes model.now) values.now) sweep.now.residual }
 {
@@ -149,21 +167,25 @@ fn first_place_of(model: &Model, values: &[i128], sweep: &Sweep) -> usize
 pub(crate) fn residual_place(
     model: &Model,
     rows: &[Items<Outlook>],
+    space: &Space,
     values: &[i128],
     sweep: &Sweep,
-) -> ResidualPlace
-    requires values { CanSweep model.now rows.now values.now }
+    work: &mut Work,
+) -> Result<ResidualPlace, AllocError>
+    requires rows { rows.now ≡ outlooks_of model.now }
+    requires values { CanSweep model.now space.now values.now }
     requires sweep { IsSweep model.now values.now sweep.now }
-    ensures { place_record result ≡ place_of model.now (at (sizes model.now) values.now) sweep.now.residual }
+    requires limited { All AreLimited sweep.now.ranges.items }
+    ensures { IfOk result (λ place. place_record place ≡ place_of model.now (at (sizes model.now) values.now) sweep.now.residual) }
 {
-    let discount = model.discount;
     let place = first_place_of(model, values, sweep);
     let ranges = sweep.ranges.as_slice();
     let side = side_of(&ranges[place], values[place], sweep.residual);
-    let action = best_action(rows[place].as_slice(), discount, values, side);
-    ResidualPlace {
-        state: state_at(model, place),
+    let s = &space.states.as_slice()[place];
+    let action = best_action(model, rows[place].as_slice(), s, space, values, side, work)?;
+    Ok(ResidualPlace {
+        state: State::of(s.values()),
         side,
         action,
-    }
+    })
 }

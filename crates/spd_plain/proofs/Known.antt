@@ -1,0 +1,102 @@
+-- What the lists of axes, reaches and kept chances tell of a model.
+use Rattle.std.proofs.Common.{◌≡◌, ◌∙◌, ℕ, suc, ◌<◌, ◌≤◌, ◌++◌, Bool, true, false, nat_le, if◌then◌else◌, List, [], ◌∷◌, length, map, take, get_or, slice_get, slice_index, Option, Some, None, All, Contains, ℤ, pos, refl, ap, sym, subst, arith}
+use Rattle.std.proofs.lemmas.Bool.Decides.{nat_tests}
+use Rattle.std.proofs.lemmas.List.{get_or-map, get_or_default}
+use Rattle.std.proofs.lemmas.List.Elements.{All-contains}
+use Rattle.std.proofs.lemmas.Option.{slice_get-get_or}
+use Rattle.std.proofs.Math.ListN.{length-map}
+use Rattle.spd_model.specs.declared.tree.Tree.{Tree, Leaf}
+use Rattle.spd_model.specs.declared.process.Action.{Action}
+use Rattle.spd_model.specs.Process.{Process}
+use Rattle.spd_model.specs.Trees.{read_in, value_of}
+use Rattle.spd_model.specs.Lawful.{IsLawful, IsAction}
+use Rattle.spd_model.specs.Numbers.{numbers_below}
+use Rattle.spd_model.specs.States.{sizes, states, state_count, IsState}
+use Rattle.spd_model.specs.Chances.{sizes_after, probability}
+use Rattle.spd_model.proofs.CallerLemmas.Lists.{length-numbers_below, get_or-numbers_below}
+use Rattle.spd_model.proofs.CallerLemmas.StateOrder.{length-IsState, length-sizes, sizes_some}
+use Rattle.spd_plain.specs.declared.space.Axis.{Axis}
+use Rattle.spd_plain.specs.declared.reach.Reach.{Reach}
+use Rattle.spd_plain.specs.declared.reach.Reach.TheVariants.{Own, Later}
+use Rattle.spd_plain.specs.declared.chances.Chances.{Chances}
+use Rattle.spd_plain.specs.declared.chances.Chances.TheVariants.{Kept, Read}
+use Rattle.spd_plain.specs.Space.{axis_of, axes_of, IsAxis, state_limit}
+use Rattle.spd_plain.specs.Reach.{latest, reach_at}
+use Rattle.spd_plain.specs.Chances.{chance_of, values_of, IsKept}
+use Rattle.spd_plain.specs.Outlooks.{known_of}
+use Rattle.spd_plain.proofs.Tables.{few_from}
+use Rattle.spd_plain.proofs.TableValues.{value-own}
+
+-- an entry of a list that tells f of the numbers below n
+pub entry_below : {X : Type 0} (f : ℕ → X) (n k : ℕ) (x : X) (all : List X) → all ≡ map f (numbers_below n) → k < n → x ≡ get_or all k x → x ≡ f k
+entry_below f n k x all are near is =
+    is ∙ ap (λ l. get_or l k x) are ∙ get_or-map f (numbers_below n) k 0 x (omega (arith, length-numbers_below n)) ∙ ap f (get_or-numbers_below n k near)
+
+pub length-below : {X : Type 0} (f : ℕ → X) (n : ℕ) (all : List X) → all ≡ map f (numbers_below n) → length all ≡ n
+length-below f n all are = ap length are ∙ length-map (numbers_below n) f ∙ length-numbers_below n
+
+-- an axis that is read
+pub axis_read : (m : Process) → IsLawful m → state_count (sizes m) ≤ state_limit → (k : ℕ) (axis : Axis) → k < length m.vars → axis ≡ axis_of m k → IsAxis m axis
+axis_read m law few k axis near is = subst (IsAxis m) (sym is) (record { near = near; is = refl; few = omega (arith, few_from m k near law, few) })
+
+module _ (m : Process) (law : IsLawful m) (a : Action) (offered : Contains m.actions a) (i : ℕ) (near : i < length m.vars) where
+  action : IsAction m a
+  action = All-contains (IsAction m) m.actions a law.actions offered
+
+  found : slice_get a.tables i ≡ Some (get_or a.tables i (Leaf (pos 0)))
+  found = slice_get-get_or a.tables i (Leaf (pos 0)) (omega (arith, action.one_each))
+
+  low_test : (b : Bool) → (if b then Own else Later) ≡ Own → b ≡ true
+  low_test true h = refl
+  low_test false h = absurd (cc)
+
+  at_most : (x y : ℕ) → nat_le x y ≡ true → x ≤ y
+  at_most x y h = grind (arith, nat_tests)
+
+  own_latest : reach_at m a i ≡ Own → read_in latest m (get_or a.tables i (Leaf (pos 0))) ≤ suc i
+  own_latest own =
+      let reach : Option Tree → Reach = λ o. elim o [ None ↦ Later | Some t ↦ if nat_le (read_in latest m t) (suc i) then Own else Later ] in
+      at_most _ _ (low_test _ (sym (ap reach found) ∙ own))
+
+  -- where a table's reach is its own variable, its probabilities are the same for all next values of the later ones
+  pub own_same : reach_at m a i ≡ Own → (s : List ℕ) → IsState (sizes m) s → (v : ℕ) (first rest : List ℕ) → chance_of m a s i (v ∷ first) ≡ chance_of m a s i (v ∷ rest)
+  own_same own s state v first rest =
+      let value : List ℕ → Option Tree → ℤ = λ u o. elim o [ None ↦ pos 0 | Some t ↦ value_of m t s (take i s ++ u) ] in
+      let read = λ (u : List ℕ). ap (value u) found in
+      read (v ∷ first)
+      ∙ value-own m i (get_or a.tables i (Leaf (pos 0))) (action.tables i (Leaf (pos 0)) near).table s (omega (arith, length-IsState (sizes m) s state, length-sizes m)) (own_latest own) v first rest
+      ∙ sym (read (v ∷ rest))
+
+  -- what is kept of a variable's probabilities holds
+  pub known_kept : (s : List ℕ) → IsState (sizes m) s → IsKept m a s i (known_of m a s i)
+  known_kept s state = by_reach (reach_at m a i) refl
+    where
+      by_reach : (r : Reach) → reach_at m a i ≡ r → IsKept m a s i (elim r [ Own ↦ Kept (values_of m a s i) | Later ↦ Read ])
+      by_reach Own own =
+          let f : ℕ → ℤ = λ v. chance_of m a s i (v ∷ get_or (states (sizes_after m i)) 0 []) in
+          (length-below f (slice_index (sizes m) i) (values_of m a s i) refl,
+           λ v rest below later.
+           get_or-map f (numbers_below (slice_index (sizes m) i)) v 0 (pos 0) (omega (arith, length-numbers_below (slice_index (sizes m) i)))
+           ∙ ap f (get_or-numbers_below (slice_index (sizes m) i) v below)
+           ∙ own_same own s state v (get_or (states (sizes_after m i)) 0 []) rest)
+      by_reach Later later = tt
+
+-- the axis that stands at k, and what is kept of its variable's probabilities
+module _ (m : Process) (law : IsLawful m) (few : state_count (sizes m) ≤ state_limit) (axes : List Axis) (are : axes ≡ axes_of m) (k : ℕ) (test : k < length axes) (d : Axis) where
+  near_var : k < length m.vars
+  near_var = omega (arith, length-below (axis_of m) (length m.vars) axes are)
+
+  axis_is : get_or axes k d ≡ axis_of m k
+  axis_is = entry_below (axis_of m) (length m.vars) k (get_or axes k d) axes are near_var (get_or_default axes k d (get_or axes k d) test)
+
+  pub var_is : (get_or axes k d).var ≡ k
+  var_is = ap (λ (x : Axis). x.var) axis_is
+
+  pub is_axis : IsAxis m (get_or axes k d)
+  is_axis = axis_read m law few k (get_or axes k d) near_var axis_is
+
+  pub known_at : (a : Action) → Contains m.actions a → (s : List ℕ) → IsState (sizes m) s → (known : List Chances) (x : Chances) → known ≡ map (known_of m a s) (numbers_below (length m.vars))
+      → x ≡ get_or known k x → IsKept m a s (get_or axes k d).var x
+  known_at a offered s state known x knows is =
+      let x_is = entry_below (known_of m a s) (length m.vars) k x known knows near_var is in
+      subst (λ (j : ℕ). IsKept m a s j x) (sym var_is) (subst (IsKept m a s k) (sym x_is) (known_kept m law a offered k near_var s state))

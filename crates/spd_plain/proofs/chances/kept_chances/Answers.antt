@@ -1,0 +1,30 @@
+use Rattle.std.proofs.Common.{rules, ◌≡◌, ◌∙◌, ◌<◌, ◌*◌, ◌+◌, ◌∷◌, [], ℕ, ℤ, drop, ap, subst, get_or, FitsSigned, arith}
+use Rattle.std.proofs.lemmas.Int.{to_z-of_z}
+use mir.Syntax.{w128}
+use Rattle.spd_model.specs.Lawful.{IsLawful}
+use Rattle.spd_model.specs.States.{sizes, states}
+use Rattle.spd_model.specs.Chances.{sizes_after}
+use Rattle.spd_plain.specs.Chances.{chance_of}
+use Rattle.spd_plain.proofs.Tables.{axis_more, after_some, map_below_more}
+use Rattle.spd_plain.proofs.Weights.{entry_below}
+use Rattle.spd_plain.proofs.chances.kept_chances.Goals as goal
+
+pub chance_at-requires-clause-place : goal.chance_at-requires-clause-place
+chance_at-requires-clause-place c =
+    let law = subst IsLawful c.model.view_is c.model.invariant in
+    let axis = c.args.axis.now in
+    omega (arith, entry_below c.loop-value.value axis.size 0 axis.after c.loop-value-test.true (after_some c.args.model.now law axis c.requires.axis))
+
+pub loop-value-preserved : goal.loop-value-preserved
+loop-value-preserved c =
+    let m = c.args.model.now in
+    let law = subst IsLawful c.model.view_is c.model.invariant in
+    let axis = c.args.axis.now in
+    let v = c.loop-value.value in
+    let chance = chance_of m c.args.action.now c.args.s.now axis.var in
+    let f : ℕ → ℤ = λ v. chance (v ∷ get_or (states (sizes_after m axis.var)) 0 []) in
+    let fits : FitsSigned w128 c.chance_at.result = search rules in
+    let place : v * axis.after ≡ v * axis.after + 0 = omega arith in
+    let here : c.chance_at.result ≡ f v = c.chance_at.ensures.value ∙ ap (λ (n : ℕ). chance (get_or (states (drop axis.var (sizes m))) n [])) place
+    ∙ ap chance (axis_more m axis c.requires.axis v 0 c.loop-value-test.true (after_some m law axis c.requires.axis)) in
+    rw (c.in_ok-push.ensures.items, to_z-of_z w128 c.chance_at.result fits) (map_below_more f v c.loop-value.kept.items _ c.loop-value.invariant here)

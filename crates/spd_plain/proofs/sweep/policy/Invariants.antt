@@ -1,7 +1,0 @@
-use Rattle.std.proofs.Common.{◌≡◌, map, take}
-use Rattle.spd_model.specs.States.{sizes, states, at}
-use Rattle.spd_model.specs.Backup.{policy_of}
-use Rattle.spd_plain.proofs.sweep.policy.Given as goal
-
-abbrev pub invariant-loop-row : goal.invariant-loop-row
-invariant-loop-row l = l.actions.items ≡ map (policy_of l.model (at (sizes l.model) l.values)) (take l.row-index (states (sizes l.model)))
