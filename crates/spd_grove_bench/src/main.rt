@@ -7,17 +7,17 @@
 #![tactic(auto)]
 
 ghost use Rattle.std.specs.Prelude.{◌≡◌, ◌<◌, ◌≤◌};
+ghost use Rattle.std.specs.Thread.{IsSync};
 
 use spd_cons::Cons;
 use spd_nodes::{Forest, Grove, Layout, Leaf, Steps};
 use std::alloc::AllocError;
-use std::env;
 use std::env::Env;
 use std::marker::Brand;
 use std::process::ExitCode;
 use std::sync::ledger::{Blank, Ledger};
-use std::thread;
 use std::thread::Threads;
+use std::{env, thread};
 
 /// What is printed where the words of the command line aren't those that it shows.
 const USAGE: &str = "usage: spd_grove_bench [LIMIT THREADS ROUNDS]";
@@ -82,6 +82,22 @@ fn made_by(mut grove: Grove<'_>, plan: Plan, from: u32) -> usize {
     grove.published()
 }
 
+/// How many leaves two groves published, each in a thread of its own.
+fn made_by_two<R: Threads + Sync>(
+    rt: &R,
+    plan: Plan,
+    first: Grove<'_>,
+    second: Grove<'_>,
+    from: u32,
+) -> usize {
+    let (a, b) = thread::join(
+        rt,
+        || made_by(first, plan, from),
+        || made_by(second, plan, from.saturating_add(plan.limit / 4)),
+    );
+    a.wrapping_add(b)
+}
+
 /// How many leaves are made in a table.
 fn made<R: Threads + Sync + AllocGlobal>(rt: &R, plan: Plan) -> Result<usize, AllocError>
     requires limit_low { 16 ≤ plan.limit }
@@ -96,25 +112,17 @@ fn made<R: Threads + Sync + AllocGlobal>(rt: &R, plan: Plan) -> Result<usize, Al
     let second = first.split();
     let third = first.split();
     let fourth = first.split();
-    let quarter = plan.limit / 4;
-    let ((a, b), (c, d)) = thread::join(
+    let half = plan.limit / 2;
+    let (front, back) = thread::join(
         rt,
-        || {
-            thread::join(
-                rt,
-                || made_by(first, plan, 0),
-                || made_by(second, plan, quarter),
-            )
-        },
-        || {
-            thread::join(
-                rt,
-                || made_by(third, plan, 2 * quarter),
-                || made_by(fourth, plan, 3 * quarter),
-            )
-        },
+        ||
+            requires { IsSync R.row }
+        { made_by_two(rt, plan, first, second, 0) },
+        ||
+            requires { IsSync R.row }
+        { made_by_two(rt, plan, third, fourth, half) },
     );
-    Ok(a.wrapping_add(b).wrapping_add(c).wrapping_add(d))
+    Ok(front.wrapping_add(back))
 }
 
 /// The number that a word of the command line is.

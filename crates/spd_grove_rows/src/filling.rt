@@ -45,12 +45,7 @@ fn sum_of_nodes<F: Forest, L: Ledger>(
 }
 
 /// The same, where no step is counted.
-pub fn fill<F: Forest, L: Ledger>(
-    forest: &mut F,
-    from: u32,
-    to: u32,
-    blank: Blank,
-) -> Option<u64>
+pub fn fill<F: Forest, L: Ledger>(forest: &mut F, from: u32, to: u32, blank: Blank) -> Option<u64>
     requires level { 0 < levels_of (slots (F.shows forest.old).sizes) }
     requires name { blank.name ≡ L.name }
     requires parts { blank.parts ≡ L.parts }
