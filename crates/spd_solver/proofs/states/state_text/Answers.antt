@@ -1,7 +1,7 @@
 use Rattle.std.proofs.Common.{ap, ◌∙◌}
 use Rattle.spd_model.specs.Process.{Process}
 use Rattle.spd_solver.proofs.StateTexts.{next_word, all_words}
-use Rattle.spd_solver.proofs.names.state_text.Goals as goal
+use Rattle.spd_solver.proofs.states.state_text.Goals as goal
 
 pub loop-i-preserved : goal.loop-i-preserved
 loop-i-preserved c =
