@@ -3,10 +3,10 @@ use Rattle.std.proofs.Common.{◌≡◌, ℕ, ◌+◌, ◌*◌, ◌<◌, true, [
 use Rattle.spd_cons_core.specs.declared.key.Entry.{Entry}
 use Rattle.spd_nodes.specs.declared.forest.StoreFault.{StoreFault}
 use Rattle.spd_nodes.specs.declared.forest.StoreFault.TheVariants as F
-use Rattle.spd_nodes.specs.Levels.{slots, levels_of}
+use Rattle.spd_nodes.specs.Levels.{slots}
 use Rattle.spd_nodes.specs.Trees.{Tree, join, CanTest}
 use Rattle.spd_nodes.specs.Shown.{Shown, Grows, MakesTree}
-use Rattle.spd_nodes.proofs.CallerLemmas.{Within, within-yes, within-no, part-fails, part-then, makes_tree-known}
+use Rattle.spd_nodes.proofs.CallerLemmas.{Within, within-yes, within-no, part-fails, part-then}
 use Rattle.spd_apply.specs.Halves.{pair_rank}
 use Rattle.spd_apply.specs.Rules.{Making, below_tree, below_rank, IsBelow, PlansTest}
 use Rattle.spd_apply.specs.declared.rule.Below.{Below}

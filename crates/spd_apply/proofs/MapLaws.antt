@@ -5,7 +5,7 @@ use Rattle.spd_nodes.specs.declared.leaf.Leaf.{Leaf}
 use Rattle.spd_nodes.specs.declared.leaf.Leaf.TheVariants.{Act}
 use Rattle.spd_nodes.specs.Levels.{levels_of, slots}
 use Rattle.spd_nodes.specs.Trees.{Ends, Tests, IsFrom, IsReduced, value_at}
-use Rattle.spd_nodes.specs.States.{point, plain_part, primed_part, function_of, Agree}
+use Rattle.spd_nodes.specs.States.{point, plain_part, primed_part}
 use Rattle.spd_nodes.specs.Shown.{Shown, IsSound, IsWhole, meaning}
 use Rattle.spd_nodes.proofs.CallerLemmas.{IsTreeFor, IsPointOf, point-parts, positive-slots, rank-view, tree_of-agree, tree_of-value_at}
 use Rattle.spd_apply.specs.declared.rule.Below.TheVariants as B

@@ -1,6 +1,7 @@
 -- The law of a claim.
 use Rattle.std.proofs.Common.{◌≡◌, ◌≢◌, ℕ, ◌+◌, ◌<◌, ◌≤◌, Bool, true, false, cond, not, ltb, min, List, take, length, set, Option, Some, None, is_none, refl, sym, ap, ◌∙◌, arith}
 use Rattle.std.proofs.lemmas.Bool.{true≢false, and_parts, cond_both, ltb-true, ltb-false, not-true}
+use Rattle.std.proofs.lemmas.Option.{none-some, same_Some}
 use Rattle.spd_cons_core.specs.declared.key.Entry.{Entry}
 use Rattle.spd_cons_core.specs.declared.mind.Last.TheVariants.{Full}
 use Rattle.spd_cons_core.specs.Views.{Seat, Machine}
@@ -10,7 +11,7 @@ use Rattle.spd_cons_core.specs.Events.{can_claim, claim}
 use Rattle.spd_cons_core.specs.Invariants.{IsSized, IsSeat, IsSoundMachine, Keeps, total_over_seats, times_listed, shares, stands_at_end}
 use Rattle.spd_cons_core.proofs.Writes.{total_set, total_same}
 use Rattle.spd_cons_core.proofs.Growth.{Grows, LeavesSpare, known_moved, search_moved, grow_claimed}
-use Rattle.spd_cons_core.proofs.Quiet.{keeps_same, none≢some, some_same, seats_changed, spares_changed, spare_kept}
+use Rattle.spd_cons_core.proofs.Quiet.{keeps_same, seats_changed, spares_changed, spare_kept}
 
 -- the machine with one more claim, and the seat that made it
 abbrev with_claim : Machine → ℕ → Seat → Machine
@@ -104,17 +105,17 @@ with_spare c i sized sound may room =
     record {
       known = known_moved c (with_claim c i w) (grows c i w) seat w refl was.known;
       own_known = was.own_known;
-      spare = λ e is. let same : c.claims ≡ e.0 = ap (λ (x : Entry). x.0) (some_same (entry c.claims) e is) in record {
+      spare = λ e is. let same : c.claims ≡ e.0 = ap (λ (x : Entry). x.0) (same_Some (entry c.claims) e is) in record {
         claimed = record { below_claims = omega arith; below_end = omega arith };
         unpublished = λ b names. let old = (sound.only_claimed b e.0 names).below_claims in omega arith;
         counted = omega arith;
       };
       search = λ call is. let s = was.search call is in search_moved c (with_claim c i w) (grows c i w) seat w refl call s
           (λ e _. ap (λ n. take n (entry_words c e.0)) (s.none_stored may.no_spare) ∙ ap (λ n. take n (words_of call.key)) (sym (s.none_stored may.no_spare)))
-          (λ none. absurd (none≢some (entry c.claims) (sym none)));
+          (λ none. absurd (none-some (entry c.claims) (sym none)));
       stands = was.stands;
       unpublished = omega arith;
-      less_without_spare = λ none. absurd (none≢some (entry c.claims) (sym none));
+      less_without_spare = λ none. absurd (none-some (entry c.claims) (sym none));
       less_at_end = λ ended. absurd (true≢false (sym ended ∙ may.going_on));
       end_met = λ ended. absurd (true≢false (sym ended ∙ may.going_on));
     }
@@ -125,7 +126,7 @@ with_spare c i sized sound may room =
       splits = refl;
       counted = omega arith;
       ends = omega arith;
-      alone = λ e is j other there its. let same : c.claims ≡ e.0 = ap (λ (x : Entry). x.0) (some_same (entry c.claims) e is) in
+      alone = λ e is j other there its. let same : c.claims ≡ e.0 = ap (λ (x : Entry). x.0) (same_Some (entry c.claims) e is) in
           let low = ((sound.seats j there).spare e its).claimed.below_claims in absurd (omega arith);
     }
 
@@ -144,8 +145,8 @@ at_end c i sized sound may past =
     record {
       known = known_moved c (with_claim c i w) (grows c i w) seat w refl was.known;
       own_known = was.own_known;
-      spare = λ e is. absurd (none≢some e (sym may.no_spare ∙ is));
-      search = λ call is. absurd (none≢some call is);
+      spare = λ e is. absurd (none-some e (sym may.no_spare ∙ is));
+      search = λ call is. absurd (none-some call is);
       stands = was.stands;
       unpublished = was.unpublished;
       less_without_spare = λ _. less;

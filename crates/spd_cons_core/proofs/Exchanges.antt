@@ -6,6 +6,7 @@ use Rattle.std.proofs.lemmas.Bool.{and_parts, cond_both, eqb-true, eqb-false, ne
 use Rattle.std.proofs.lemmas.List.{get_or-set_same, get_or-set_other, get_or_past, length-set, length_push, set-get_or}
 use Rattle.std.proofs.lemmas.List.Elements.{Contains-push_cases}
 use Rattle.std.proofs.lemmas.List.Sums.{sum_by-set, sum_by_push}
+use Rattle.std.proofs.lemmas.Option.{none-some, same_Some}
 use Rattle.spd_cons_core.specs.declared.key.Entry.{Entry}
 use Rattle.spd_cons_core.specs.declared.mind.Known.{Known}
 use Rattle.spd_cons_core.specs.declared.mind.Call.{Call}
@@ -18,7 +19,7 @@ use Rattle.spd_cons_core.specs.Invariants.{IsSized, IsClaimed, IsKnown, IsPassed
 use Rattle.spd_cons_core.proofs.Writes.{total_set, total_same}
 use Rattle.spd_cons_core.proofs.Growth.{Grows, grow_claimed, grow_known}
 use Rattle.spd_cons_core.proofs.Knowledge.{learned_keeps, learned_known}
-use Rattle.spd_cons_core.proofs.Quiet.{keeps_same, none≢some, some_same, seats_changed, spares_changed, call_keeps}
+use Rattle.spd_cons_core.proofs.Quiet.{keeps_same, seats_changed, spares_changed, call_keeps}
 use Rattle.spd_cons_core.proofs.Fives.{five_of_key, five_of_entry, same_of_five}
 use Rattle.spd_cons_core.proofs.Starts.{passed_order}
 use Rattle.spd_cons_core.proofs.LoadsContent.{learns}
@@ -141,8 +142,8 @@ won_seat c d i call spare sized sound may has entries claims =
           (λ (old : Contains seat.published e). learned_keeps seat.knows k e (was.own_known e old))
           (λ (same : spare ≡ e). subst (λ (x : Entry). is_known (learned seat.knows k) x ≡ true) same (learned_known seat.knows k))
           (Contains-push_cases seat.published spare e at);
-      spare = λ e is. absurd (none≢some e is);
-      search = λ call' is. absurd (none≢some call' is);
+      spare = λ e is. absurd (none-some e is);
+      search = λ call' is. absurd (none-some call' is);
       stands = was.stands;
       unpublished = omega arith;
       less_without_spare = λ _. omega arith;
@@ -233,7 +234,7 @@ wins c i call spare sized sound may =
                   (λ (t : (b ≢ call.at) × Names c b e.0). ((sound.seats j there).spare e its).unpublished b t.1)
                   (has.cases b e.0 names);
             });
-        own_spare = spares_changed c sound i w live (λ e is. absurd (none≢some e is));
+        own_spare = spares_changed c sound i w live (λ e is. absurd (none-some e is));
         all_counted = omega arith;
         all_listed = omega arith;
         all_seats = sums ∙ sound.all_seats;
@@ -270,9 +271,9 @@ lost_search c seat call was full o is = record {
   parts = was.parts;
   at_bucket = was.at_bucket;
   passed = was.passed;
-  found = λ e its. let same : bucket c call.at - 1 ≡ e.0 = ap (λ (x : Entry). x.0) (some_same (entry (bucket c call.at - 1)) e its) in
+  found = λ e its. let same : bucket c call.at - 1 ≡ e.0 = ap (λ (x : Entry). x.0) (same_Some (entry (bucket c call.at - 1)) e its) in
       let names : Names c call.at e.0 = omega arith in (names, right o is e names);
-  none_right = λ its. absurd (none≢some (entry (bucket c call.at - 1)) (sym its));
+  none_right = λ its. absurd (none-some (entry (bucket c call.at - 1)) (sym its));
   stored = was.stored;
   none_stored = was.none_stored;
 }

@@ -5,6 +5,7 @@ use Rattle.std.proofs.lemmas.Bool.{true≢false, and_parts, cond_both, or_cases,
 use Rattle.std.proofs.lemmas.List.{get_or-set_other, length-append}
 use Rattle.std.proofs.lemmas.List.Elements.{Contains-append_cases}
 use Rattle.std.proofs.lemmas.List.Sums.{sum_by-set, sum_by-append}
+use Rattle.std.proofs.lemmas.Option.{none-some}
 use Rattle.spd_cons_core.specs.declared.key.Entry.{Entry}
 use Rattle.spd_cons_core.specs.declared.mind.Known.{Known}
 use Rattle.spd_cons_core.specs.declared.mind.Call.{Call}
@@ -15,7 +16,7 @@ use Rattle.spd_cons_core.specs.Invariants.{IsSized, IsKnown, IsSeat, IsSoundMach
 use Rattle.spd_cons_core.proofs.Writes.{set_cases, live_within, total_set, share_of, share_live}
 use Rattle.spd_cons_core.proofs.Growth.{Grows, grow_claimed, grow_known, grow_seat}
 use Rattle.spd_cons_core.proofs.Knowledge.{joined_keeps, joined_known, joined_cases, parts_more}
-use Rattle.spd_cons_core.proofs.Quiet.{keeps_same, none≢some}
+use Rattle.spd_cons_core.proofs.Quiet.{keeps_same}
 use Rattle.spd_cons_core.proofs.Splits.{grows_seats, leaves_seats}
 
 -- two different live seats in no call
@@ -47,7 +48,7 @@ spare_cases (Some x) b e is = inl is
 spare_cases None b e is = inr is
 
 spare_none : (a b : Option Entry) → either_spare a b ≡ None → (a ≡ None)
-spare_none (Some x) b is = absurd (none≢some x (sym is))
+spare_none (Some x) b is = absurd (none-some x (sym is))
 spare_none None b is = refl
 
 -- a joined seat knows what both knew
@@ -88,7 +89,7 @@ joined_seat c i j l sound may =
           (λ (mine : seat.spare ≡ Some e). let s = was.spare e mine in let n = s.counted in record { claimed = grow_claimed c d g e.0 s.claimed; unpublished = s.unpublished; counted = omega arith })
           (λ (its : other.spare ≡ Some e). let s = was'.spare e its in let n = s.counted in record { claimed = grow_claimed c d g e.0 s.claimed; unpublished = s.unpublished; counted = omega arith })
           (spare_cases seat.spare other.spare e is);
-      search = λ call is. absurd (none≢some call (sym may.no_call ∙ is));
+      search = λ call is. absurd (none-some call (sym may.no_call ∙ is));
       stands = omega arith;
       unpublished = omega arith;
       less_without_spare = λ none. let less = was.less_without_spare (spare_none seat.spare other.spare none) in omega arith;

@@ -2,6 +2,7 @@
 use Rattle.std.proofs.Common.{◌≡◌, ◌≢◌, ℕ, ◌-◌, ◌<◌, Bool, true, not, ◌&&◌, eqb, take, Option, Some, None, is_none, unwrap_or, refl, sym, ap, ◌∙◌, arith}
 use Rattle.std.specs.Option.{option_map_or}
 use Rattle.std.proofs.lemmas.Bool.{true≢false, and_parts, cond_both, eqb-false}
+use Rattle.std.proofs.lemmas.Option.{none-some, same_Some}
 use Rattle.spd_cons_core.specs.declared.key.Entry.{Entry}
 use Rattle.spd_cons_core.specs.declared.key.Key.{Key}
 use Rattle.spd_cons_core.specs.declared.mind.Call.{Call}
@@ -11,7 +12,7 @@ use Rattle.spd_cons_core.specs.Spelling.{IsKey, words_of, first_bucket}
 use Rattle.spd_cons_core.specs.Seats.{seat_at, with_seat, bucket, bucket_count, entry, entry_words, same_key, parts_known}
 use Rattle.spd_cons_core.specs.Events.{new_call, call_for, can_load_bucket, after_bucket, load_bucket}
 use Rattle.spd_cons_core.specs.Invariants.{IsSized, IsSearch, IsSoundMachine, Keeps}
-use Rattle.spd_cons_core.proofs.Quiet.{keeps_same, none≢some, some_same, call_keeps, end_keeps}
+use Rattle.spd_cons_core.proofs.Quiet.{keeps_same, call_keeps, end_keeps}
 use Rattle.spd_cons_core.proofs.Starts.{start_below, start_passes_none}
 
 -- there are buckets
@@ -25,7 +26,7 @@ new_search c seat key sized fits known = record {
   parts = known;
   at_bucket = start_below (words_of key) (bucket_count c) (some_buckets c sized);
   passed = λ b within passed. absurd (start_passes_none (first_bucket (words_of key) (bucket_count c)) b passed);
-  found = λ e is. absurd (none≢some e is);
+  found = λ e is. absurd (none-some e is);
   none_right = λ _. refl;
   stored = λ e is. refl;
   none_stored = λ _. refl;
@@ -52,9 +53,9 @@ found_entry c seat call empty was none full = record {
   parts = was.parts;
   at_bucket = was.at_bucket;
   passed = was.passed;
-  found = λ e is. let same : bucket c call.at - 1 ≡ e.0 = ap (λ (x : Entry). x.0) (some_same (entry (bucket c call.at - 1)) e is) in
+  found = λ e is. let same : bucket c call.at - 1 ≡ e.0 = ap (λ (x : Entry). x.0) (same_Some (entry (bucket c call.at - 1)) e is) in
       (omega arith, ap (λ n. take n (entry_words c e.0)) none ∙ ap (λ n. take n (words_of call.key)) (sym none));
-  none_right = λ is. absurd (none≢some (entry (bucket c call.at - 1)) (sym is));
+  none_right = λ is. absurd (none-some (entry (bucket c call.at - 1)) (sym is));
   stored = was.stored;
   none_stored = was.none_stored;
 }

@@ -4,6 +4,7 @@ use Rattle.std.specs.List.{Contains}
 use Rattle.std.specs.Option.{option_map_or}
 use Rattle.std.proofs.lemmas.Bool.{true≢false, and_parts, cond_both, eqb-true, eqb-false, ltb-true}
 use Rattle.std.proofs.lemmas.List.{take_more_same}
+use Rattle.std.proofs.lemmas.Option.{none-some, same_Some}
 use Rattle.spd_cons_core.specs.declared.key.Entry.{Entry}
 use Rattle.spd_cons_core.specs.declared.mind.Known.{Known}
 use Rattle.spd_cons_core.specs.declared.mind.Call.{Call}
@@ -13,7 +14,7 @@ use Rattle.spd_cons_core.specs.Spelling.{words_of, first_bucket}
 use Rattle.spd_cons_core.specs.Seats.{seat_at, with_seat, bucket, bucket_count, entry, entry_words, Names, parts_known, learned}
 use Rattle.spd_cons_core.specs.Events.{can_compare, next_bucket, after_content, compare_in, load_content}
 use Rattle.spd_cons_core.specs.Invariants.{IsSized, IsKnown, IsSearch, IsSoundMachine, Keeps}
-use Rattle.spd_cons_core.proofs.Quiet.{keeps_same, none≢some, some_same, call_keeps, quiet_keeps}
+use Rattle.spd_cons_core.proofs.Quiet.{keeps_same, call_keeps, quiet_keeps}
 use Rattle.spd_cons_core.proofs.Knowledge.{learned_cases, learned_keeps, parts_more}
 use Rattle.spd_cons_core.proofs.Fives.{five_of_key, five_of_entry, same_of_five}
 use Rattle.spd_cons_core.proofs.Starts.{passed_next}
@@ -71,8 +72,8 @@ righted c seat call e was is right = record {
   parts = was.parts;
   at_bucket = was.at_bucket;
   passed = was.passed;
-  found = λ x is'. ((was.found x is').0, subst (λ (y : Entry). take (call.right + 1) (entry_words c y.0) ≡ take (call.right + 1) (words_of call.key)) (some_same e x (sym is ∙ is')) right);
-  none_right = λ none. absurd (none≢some e (sym none ∙ is));
+  found = λ x is'. ((was.found x is').0, subst (λ (y : Entry). take (call.right + 1) (entry_words c y.0) ≡ take (call.right + 1) (words_of call.key)) (same_Some e x (sym is ∙ is')) right);
+  none_right = λ none. absurd (none-some e (sym none ∙ is));
   stored = was.stored;
   none_stored = was.none_stored;
 }
@@ -88,7 +89,7 @@ moved_on c seat call e was names differs = record {
       (λ before. was.passed b within before)
       (λ (here : b ≡ call.at). record { entry = e.0; names = ap (bucket c) here ∙ names; differs = differs })
       (passed_next (bucket_count c) (first_bucket (words_of call.key) (bucket_count c)) call.at b within passed);
-  found = λ x is. absurd (none≢some x is);
+  found = λ x is. absurd (none-some x is);
   none_right = λ _. refl;
   stored = was.stored;
   none_stored = was.none_stored;
@@ -115,7 +116,7 @@ got c i call e sized sound live new =
     record {
       known = learns c (seat_at c i) k was.known new w refl;
       own_known = λ x listed. learned_keeps (seat_at c i).knows k x (was.own_known x listed);
-      search = λ call' is. absurd (none≢some call' is);
+      search = λ call' is. absurd (none-some call' is);
     }
 
 compared : (c : Machine) (i : ℕ) (call : Call) (e : Entry) (word : ℕ) → IsSized c → IsSoundMachine c → (seat_at c i).live ≡ true → (seat_at c i).call ≡ Some call → call.found ≡ Some e → IsFound c call e word

@@ -1,6 +1,7 @@
 -- An event that changes one seat's search and what it knows, and neither the table nor any count.
 use Rattle.std.proofs.Common.{◌≡◌, ◌≢◌, ℕ, ◌+◌, ◌≤◌, true, cond, List, length, get_or, set, Option, Some, None, refl, sym, ap, ◌∙◌, subst, arith}
 use Rattle.std.specs.List.{Contains}
+use Rattle.std.proofs.lemmas.Option.{none-some, same_Some}
 use Rattle.spd_cons_core.specs.declared.key.Entry.{Entry}
 use Rattle.spd_cons_core.specs.declared.mind.Known.{Known}
 use Rattle.spd_cons_core.specs.declared.mind.Call.{Call}
@@ -17,12 +18,6 @@ stays_same c = record { limit = refl; most = refl; count = refl; buckets = λ b 
 
 pub keeps_same : (c : Machine) → IsSized c → IsSoundMachine c → Keeps c c
 keeps_same c sized sound = record { sized = sized; sound = sound; stays = stays_same c }
-
-pub none≢some : {A : Type 0} (x : A) → None ≡ Some x → ⊥
-none≢some x e = cc
-
-pub some_same : {A : Type 0} (x y : A) → Some x ≡ Some y → x ≡ y
-some_same x y e = cc
 
 -- each seat, where one was replaced and the others keep their spares
 pub seats_changed : (c d : Machine) → Grows c d → IsSoundMachine c → (i : ℕ) (w : Seat) → (seat_at c i).live ≡ true → IsSeat d w
@@ -148,7 +143,7 @@ search_keeps c i o last sized sound live search =
 pub call_keeps : (c : Machine) (i : ℕ) (new : Call) → IsSized c → IsSoundMachine c → (seat_at c i).live ≡ true → IsSearch c (seat_at c i) new → Keeps c (with_seat c i (record (seat_at c i) { call = Some new }))
 call_keeps c i new sized sound live search =
     search_keeps c i (Some new) (seat_at c i).last sized sound live
-    (λ call is. subst (IsSearch c (record (seat_at c i) { call = Some new })) (some_same new call is) record {
+    (λ call is. subst (IsSearch c (record (seat_at c i) { call = Some new })) (same_Some new call is) record {
       in_range = search.in_range;
       parts = search.parts;
       at_bucket = search.at_bucket;
@@ -161,4 +156,4 @@ call_keeps c i new sized sound live search =
 
 -- a call that ends
 pub end_keeps : (c : Machine) (i : ℕ) (last : Last) → IsSized c → IsSoundMachine c → (seat_at c i).live ≡ true → Keeps c (with_seat c i (record (seat_at c i) { call = None; last = last }))
-end_keeps c i last sized sound live = search_keeps c i None last sized sound live (λ call is. absurd (none≢some call is))
+end_keeps c i last sized sound live = search_keeps c i None last sized sound live (λ call is. absurd (none-some call is))

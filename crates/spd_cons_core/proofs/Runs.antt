@@ -7,13 +7,14 @@ use Rattle.std.proofs.lemmas.List.{get_or-replicate, get_or_past, length-replica
 use Rattle.std.proofs.lemmas.List.Elements.{All-replicate}
 use Rattle.std.proofs.lemmas.List.Sums.{fold_more}
 use Rattle.std.proofs.lemmas.List.Folds.{sum_by-replicate}
+use Rattle.std.proofs.lemmas.Option.{none-some}
 use Rattle.spd_cons_core.specs.declared.event.Event.{Event}
 use Rattle.spd_cons_core.specs.declared.event.Event.TheVariants.{LoadBucket, Claim, StoreContent, ExchangeBucket, LoadContent, Split, Join}
 use Rattle.spd_cons_core.specs.Views.{Seat, Machine}
 use Rattle.spd_cons_core.specs.Seats.{spent, seat_at}
 use Rattle.spd_cons_core.specs.Events.{step, run, new_machine}
 use Rattle.spd_cons_core.specs.Invariants.{IsEvent, IsSized, IsSeat, IsSoundMachine, Stays, Keeps, filled}
-use Rattle.spd_cons_core.proofs.Quiet.{none≢some, keeps_same}
+use Rattle.spd_cons_core.proofs.Quiet.{keeps_same}
 use Rattle.spd_cons_core.proofs.LoadsBucket.{load_bucket_keeps}
 use Rattle.spd_cons_core.proofs.LoadsContent.{load_content_keeps}
 use Rattle.spd_cons_core.proofs.Claims.{claim_keeps}
@@ -85,8 +86,8 @@ new_sound limit most count some =
           (λ _. record {
             known = λ k at. absurd (nothing_contained k at);
             own_known = λ e at. absurd (nothing_contained e at);
-            spare = λ e is. absurd (none≢some e is);
-            search = λ call is. absurd (none≢some call is);
+            spare = λ e is. absurd (none-some e is);
+            search = λ call is. absurd (none-some call is);
             stands = omega arith;
             unpublished = omega arith;
             less_without_spare = λ _. omega arith;
@@ -95,7 +96,7 @@ new_sound limit most count some =
           })
           (λ i live. absurd (true≢false (sym live)));
       own_spare = λ i j e. first_seat (λ i s. s.live ≡ true → (seat_at c j).live ≡ true → s.spare ≡ Some e → (seat_at c j).spare ≡ Some e → i ≡ j) (record spent { live = true; stands = 1; splits = most - 1 })
-          (λ _ _ is _. absurd (none≢some e is)) (λ i _ _ is _. absurd (none≢some e is)) i;
+          (λ _ _ is _. absurd (none-some e is)) (λ i _ _ is _. absurd (none-some e is)) i;
       all_counted = omega arith;
       all_listed = sym empty;
       all_seats = omega arith;

@@ -3,6 +3,7 @@ use Rattle.std.proofs.Common.{◌≡◌, ◌≢◌, ℕ, ◌+◌, ◌<◌, true,
 use Rattle.std.proofs.lemmas.Bool.{and_parts, cond_both, eqb-true, ltb-true}
 use Rattle.std.proofs.lemmas.List.{get_or-set_same, get_or-set_other, length-set, take_more, take_more_set}
 use Rattle.std.proofs.lemmas.List.Elements.{All-set}
+use Rattle.std.proofs.lemmas.Option.{none-some, same_Some}
 use Rattle.spd_cons_core.specs.declared.key.Entry.{Entry}
 use Rattle.spd_cons_core.specs.declared.mind.Call.{Call}
 use Rattle.spd_cons_core.specs.Views.{Seat, Machine}
@@ -12,7 +13,7 @@ use Rattle.spd_cons_core.specs.Events.{can_store, store_in, store_content}
 use Rattle.spd_cons_core.specs.Invariants.{IsSized, IsPassed, IsSearch, IsSeat, IsSoundMachine, Keeps, times_listed, shares, stands_at_end}
 use Rattle.spd_cons_core.proofs.Writes.{total_same}
 use Rattle.spd_cons_core.proofs.Growth.{Grows, LeavesSpare, known_moved, grow_claimed, grow_passed}
-use Rattle.spd_cons_core.proofs.Quiet.{keeps_same, none≢some, some_same, seats_changed, spares_changed, spare_kept}
+use Rattle.spd_cons_core.proofs.Quiet.{keeps_same, seats_changed, spares_changed, spare_kept}
 use Rattle.spd_cons_core.proofs.Fives.{five_of_key, five_of_entry, claimed_within}
 
 -- the seat's call with one more word stored
@@ -86,14 +87,14 @@ stores c i call spare word sized sound may =
       passed = grow_passed c d g call.key call.at search.passed;
       found = λ e is. let f = search.found e is in (g.names call.at e.0 f.0, ap (take call.right) (g.words call.at e.0 f.0) ∙ f.1);
       none_right = search.none_right;
-      stored = λ e is. subst (λ (x : Entry). take (call.stored + 1) (entry_words d x.0) ≡ take (call.stored + 1) (words_of call.key)) (some_same spare e (sym may.has_spare ∙ is)) (stored_more c i call spare word w sized sound may);
-      none_stored = λ none. absurd (none≢some spare (sym none ∙ may.has_spare));
+      stored = λ e is. subst (λ (x : Entry). take (call.stored + 1) (entry_words d x.0) ≡ take (call.stored + 1) (words_of call.key)) (same_Some spare e (sym may.has_spare ∙ is)) (stored_more c i call spare word w sized sound may);
+      none_stored = λ none. absurd (none-some spare (sym none ∙ may.has_spare));
     } in
     let mine : IsSeat d w = record {
       known = known_moved c d g seat w refl was.known;
       own_known = was.own_known;
       spare = λ e is. let s = was.spare e is in record { claimed = grow_claimed c d g e.0 s.claimed; unpublished = s.unpublished; counted = s.counted };
-      search = λ call' is. subst (IsSearch d w) (some_same (more_stored call) call' is) new_search;
+      search = λ call' is. subst (IsSearch d w) (same_Some (more_stored call) call' is) new_search;
       stands = was.stands;
       unpublished = was.unpublished;
       less_without_spare = was.less_without_spare;

@@ -74,32 +74,28 @@ pub exchanges_whole_key : (c : Machine) → IsSized c → IsSoundMachine c → (
 exchanges_whole_key c sized sound i b = exchanged_bucket c sized sound i b (seat_at c i).call (seat_at c i).spare refl refl
 
 -- a seat that isn't live takes no event
-
-not_taken : {A : Type 0} (b : Bool) (x y : A) → b ≡ false → cond b x y ≡ y
-not_taken b x y off = cond-false b x y off
-
 pub spent_rests : (c : Machine) (event : Event) → (seat_at c (seat_of event)).live ≡ false → step c event ≡ c
-spent_rests c (LoadBucket i key) off = not_taken _ _ c (and_left (seat_at c i).live _ off)
-spent_rests c (Claim i) off = not_taken _ _ c (and_left (seat_at c i).live _ off)
+spent_rests c (LoadBucket i key) off = cond-false _ _ c (and_left (seat_at c i).live _ off)
+spent_rests c (Claim i) off = cond-false _ _ c (and_left (seat_at c i).live _ off)
 spent_rests c (StoreContent i word) off = by_parts (seat_at c i).call (seat_at c i).spare
   where
     by_parts : (o : Option Call) (s : Option Entry) → store_in c i word o s ≡ c
     by_parts None s = refl
     by_parts (Some call) None = refl
-    by_parts (Some call) (Some spare) = not_taken _ _ c (and_left (seat_at c i).live _ off)
+    by_parts (Some call) (Some spare) = cond-false _ _ c (and_left (seat_at c i).live _ off)
 spent_rests c (ExchangeBucket i) off = by_parts (seat_at c i).call (seat_at c i).spare
   where
     by_parts : (o : Option Call) (s : Option Entry) → exchange_in c i o s ≡ c
     by_parts None s = refl
     by_parts (Some call) None = refl
-    by_parts (Some call) (Some spare) = not_taken _ _ c (and_left (seat_at c i).live _ off)
+    by_parts (Some call) (Some spare) = cond-false _ _ c (and_left (seat_at c i).live _ off)
 spent_rests c (LoadContent i e word) off = by_call (seat_at c i).call
   where
     by_call : (o : Option Call) → compare_in c i e word o ≡ c
     by_call None = refl
-    by_call (Some call) = not_taken _ _ c (and_left (seat_at c i).live _ off)
-spent_rests c (Split i) off = not_taken _ _ c (and_left (seat_at c i).live _ off)
-spent_rests c (Join i j) off = not_taken _ _ c (and_right (not (eqb i j)) _ (and_left ((seat_at c i).live && (seat_at c j).live) _ (and_left (seat_at c i).live _ off)))
+    by_call (Some call) = cond-false _ _ c (and_left (seat_at c i).live _ off)
+spent_rests c (Split i) off = cond-false _ _ c (and_left (seat_at c i).live _ off)
+spent_rests c (Join i j) off = cond-false _ _ c (and_right (not (eqb i j)) _ (and_left ((seat_at c i).live && (seat_at c j).live) _ (and_left (seat_at c i).live _ off)))
 
 -- a search never comes back to its start
 

@@ -21,7 +21,7 @@ use Rattle.spd_plain.specs.declared.reach.Reach.TheVariants.{Own, Later}
 use Rattle.spd_plain.specs.declared.chances.Chances.{Chances}
 use Rattle.spd_plain.specs.declared.chances.Chances.TheVariants.{Kept, Read}
 use Rattle.spd_plain.specs.Space.{axis_of, axes_of, IsAxis, state_limit}
-use Rattle.spd_plain.specs.Reach.{latest, reach_at}
+use Rattle.spd_plain.specs.Reach.{latest, reach_at, reaches_after}
 use Rattle.spd_plain.specs.Chances.{chance_of, values_of, IsKept}
 use Rattle.spd_plain.specs.Outlooks.{known_of}
 use Rattle.spd_plain.proofs.Tables.{few_from}
@@ -73,12 +73,13 @@ module _ (m : Process) (law : IsLawful m) (a : Action) (offered : Contains m.act
     where
       by_reach : (r : Reach) → reach_at m a i ≡ r → IsKept m a s i (elim r [ Own ↦ Kept (values_of m a s i) | Later ↦ Read ])
       by_reach Own own =
-          let f : ℕ → ℤ = λ v. chance_of m a s i (v ∷ get_or (states (sizes_after m i)) 0 []) in
-          (length-below f (slice_index (sizes m) i) (values_of m a s i) refl,
-           λ v rest below later.
-           get_or-map f (numbers_below (slice_index (sizes m) i)) v 0 (pos 0) (omega (arith, length-numbers_below (slice_index (sizes m) i)))
-           ∙ ap f (get_or-numbers_below (slice_index (sizes m) i) v below)
-           ∙ own_same own s state v (get_or (states (sizes_after m i)) 0 []) rest)
+          let f : ℕ → ℤ = λ v. chance_of m a s i (v ∷ get_or (states (sizes_after m i)) 0 []) in (
+            length-below f (slice_index (sizes m) i) (values_of m a s i) refl,
+            λ v rest below later.
+                get_or-map f (numbers_below (slice_index (sizes m) i)) v 0 (pos 0) (omega (arith, length-numbers_below (slice_index (sizes m) i)))
+                ∙ ap f (get_or-numbers_below (slice_index (sizes m) i) v below)
+                ∙ own_same own s state v (get_or (states (sizes_after m i)) 0 []) rest,
+          )
       by_reach Later later = tt
 
 -- the axis that stands at k, and what is kept of its variable's probabilities
@@ -100,3 +101,10 @@ module _ (m : Process) (law : IsLawful m) (few : state_count (sizes m) ≤ state
   known_at a offered s state known x knows is =
       let x_is = entry_below (known_of m a s) (length m.vars) k x known knows near_var is in
       subst (λ (j : ℕ). IsKept m a s j x) (sym var_is) (subst (IsKept m a s k) (sym x_is) (known_kept m law a offered k near_var s state))
+
+  -- the reach of that variable's table
+  pub reach_read : (a : Action) (reaches : List Reach) → reaches ≡ reaches_after m a → get_or reaches k Own ≡ reach_at m a (get_or axes k d).var
+  reach_read a reaches reach_are =
+      let inside : k < length reaches = omega (arith, near_var, length-below (reach_at m a) (length m.vars) reaches reach_are) in
+      entry_below (reach_at m a) (length m.vars) k (get_or reaches k Own) reaches reach_are near_var (get_or_default reaches k Own (get_or reaches k Own) inside)
+      ∙ ap (reach_at m a) (sym var_is)

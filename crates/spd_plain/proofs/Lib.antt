@@ -7,3 +7,13 @@ pub mod Tables
 pub mod TableValues
 pub mod Steps
 pub mod Known
+pub mod Rows
+pub mod Numbered
+pub mod OwnSums
+pub mod SweepLaws
+pub mod Runs
+pub mod Shapes
+pub mod Told
+pub mod BitTests
+pub mod Products
+pub mod ReturnFits

@@ -63,7 +63,15 @@ pub(crate) fn best_bounds(
     let actions = model.actions.as_slice();
     let mut best = bounds_of(model, &actions[0], &outlooks[0], s, space, values, work)?;
     for number in 1..actions.len() {
-        let bounds = bounds_of(model, &actions[number], &outlooks[number], s, space, values, work)?;
+        let bounds = bounds_of(
+            model,
+            &actions[number],
+            &outlooks[number],
+            s,
+            space,
+            values,
+            work,
+        )?;
         best.low = best.low.max(bounds.low);
         best.high = best.high.max(bounds.high);
     }
@@ -110,10 +118,28 @@ pub(crate) fn best_action(
     ensures { IfOk result (λ action. action ≡ action_on side model.now (at (sizes model.now) values.now) s.now) }
 {
     let actions = model.actions.as_slice();
-    let mut best = bound_of(model, &actions[0], &outlooks[0], s, space, values, side, work)?;
+    let mut best = bound_of(
+        model,
+        &actions[0],
+        &outlooks[0],
+        s,
+        space,
+        values,
+        side,
+        work,
+    )?;
     let mut first = 0;
     for number in 1..actions.len() {
-        let bound = bound_of(model, &actions[number], &outlooks[number], s, space, values, side, work)?;
+        let bound = bound_of(
+            model,
+            &actions[number],
+            &outlooks[number],
+            s,
+            space,
+            values,
+            side,
+            work,
+        )?;
         if best < bound {
             best = bound;
             first = number as u32;

@@ -122,9 +122,29 @@ pub(crate) fn expect(
     work.high.extend_from_slice(values)?;
     for var in 0..axes.len() {
         let axis = &axes[var];
-        tell_chances(model, action, s, axis, space, &known[var], &mut work.chances)?;
-        sum_out(&work.chances, axis.size, axis.after, Side::Below, &mut work.low);
-        sum_out(&work.chances, axis.size, axis.after, Side::Above, &mut work.high);
+        tell_chances(
+            model,
+            action,
+            s,
+            axis,
+            space,
+            &known[var],
+            &mut work.chances,
+        )?;
+        sum_out(
+            &work.chances,
+            axis.size,
+            axis.after,
+            Side::Below,
+            &mut work.low,
+        );
+        sum_out(
+            &work.chances,
+            axis.size,
+            axis.after,
+            Side::Above,
+            &mut work.high,
+        );
     }
     Ok(())
 }

@@ -2,13 +2,13 @@
 
 ghost use Rattle.std.specs.Prelude.{◌≡◌, ◌<◌, length, map, IfOk, Contains};
 ghost use Rattle.spd_model.specs.States.{sizes, IsState};
-ghost use Rattle.spd_plain.specs.Space.{IsSpace};
-ghost use Rattle.spd_plain.specs.Reach.{reaches_after, reaches_of};
-ghost use Rattle.spd_plain.specs.Outlooks.{outlook_of, outlooks_at as outlooks_at_of, outlooks_of};
+ghost use Rattle.spd_plain.specs.Space.{IsAxis, IsSpace};
+ghost use Rattle.spd_plain.specs.Reach.{reach_at, reaches_after, reaches_of};
+ghost use Rattle.spd_plain.specs.Outlooks.{known_of, outlook_of, outlooks_at as outlooks_at_of, outlooks_of};
 
 use crate::chances::{Chances, kept_chances};
 use crate::reach::Reach;
-use crate::space::Space;
+use crate::space::{Axis, Space};
 use crate::validity::reward;
 use spd_model::{Action, Model, State};
 use sqlite_items::Items;
@@ -21,6 +21,29 @@ pub struct Outlook {
     pub reward: i128,
     /// The probabilities of each variable's next values, in the order of the variables.
     pub chances: Items<Chances>,
+}
+
+/// What is kept of a variable's probabilities after `action` at `s`.
+fn known_chances(
+    alloc: Global,
+    model: &Model,
+    action: &Action,
+    reach: Reach,
+    s: &State,
+    axis: &Axis,
+    space: &Space,
+) -> Result<Chances, AllocError>
+    requires action { Contains model.now.actions action.now }
+    requires reach { reach ≡ reach_at model.now action.now axis.now.var }
+    requires state { IsState (sizes model.now) s.now }
+    requires axis { IsAxis model.now axis.now }
+    requires space { IsSpace model.now space.now }
+    ensures { IfOk result (λ known. known ≡ known_of model.now action.now s.now axis.now.var) }
+{
+    match reach {
+        Reach::Own => Ok(Chances::Kept(kept_chances(alloc, model, action, s, axis, space)?)),
+        Reach::Later => Ok(Chances::Read),
+    }
 }
 
 /// What `action` comes to at `s`.
@@ -38,13 +61,12 @@ fn outlook_after(
     requires space { IsSpace model.now space.now }
     ensures { IfOk result (λ outlook. outlook ≡ outlook_of model.now s.now action.now) }
 {
+    // Reading a field tells the proof what every model keeps.
+    let _vars = &model.vars;
     let axes = space.axes.as_slice();
     let mut chances = Vec::with_capacity(alloc, axes.len())?;
     for var in 0..axes.len() {
-        let known = match reaches[var] {
-            Reach::Own => Chances::Kept(kept_chances(alloc, model, action, s, &axes[var], space)?),
-            Reach::Later => Chances::Read,
-        };
+        let known = known_chances(alloc, model, action, reaches[var], s, &axes[var], space)?;
         chances.push(known)?;
     }
     Ok(Outlook {

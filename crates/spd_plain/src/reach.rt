@@ -48,7 +48,12 @@ fn latest_of_diagrams(alloc: Global, model: &Model) -> Result<Vec<usize>, AllocE
 }
 
 /// The reach of each of an action's tables in order.
-fn reaches_after(alloc: Global, model: &Model, action: &Action, diagrams: &[usize]) -> Result<Items<Reach>, AllocError>
+fn reaches_after(
+    alloc: Global,
+    model: &Model,
+    action: &Action,
+    diagrams: &[usize],
+) -> Result<Items<Reach>, AllocError>
     requires action { Contains model.now.actions action.now }
     requires diagrams { diagrams.now ≡ read_diagrams latest [] model.now.dds }
     ensures { IfOk result (λ reaches. reaches ≡ reaches_after_of model.now action.now) }

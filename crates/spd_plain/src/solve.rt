@@ -52,7 +52,9 @@ pub struct Plain {
 #[derive(Debug, Drop)]
 pub enum PlainFault {
     /// The model has more than 4,096 states: the first product of leading variables' numbers of values that passes this.
-    TooManyStates { product: u32 },
+    TooManyStates {
+        product: u32,
+    },
     /// The probabilities of a variable's next values don't sum to one: the first such action, variable and state, and the sum in units
     /// of 10^-12, which is that for the first next values of the variables after it at which it isn't one.
     Sum {

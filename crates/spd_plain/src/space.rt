@@ -1,7 +1,7 @@
 //! The states of a model in order, and the place of each variable in that order.
 
 ghost use Rattle.std.specs.Prelude.{◌≡◌, ◌<◌, ◌≤◌, IfOk, IfErr, Some};
-ghost use Rattle.spd_model.specs.States.{sizes, states, state_count};
+ghost use Rattle.spd_model.specs.States.{sizes, states, state_count, IsState};
 ghost use Rattle.spd_plain.specs.Space.{axes_of, IsSpace, state_limit, first_large_product};
 
 use spd_model::{Model, State};
@@ -44,6 +44,16 @@ pub(crate) fn count_states(model: &Model) -> Result<usize, u32>
     Ok(count)
 }
 
+/// The same state once more.
+pub(crate) fn same_state(model: &Model, s: &State) -> State
+    requires { IsState (sizes model.now) s.now }
+    ensures { result ≡ s.now }
+{
+    // Reading a field tells the proof what every model keeps.
+    let _vars = &model.vars;
+    State::of(s.values())
+}
+
 /// All states in order.
 fn all_states(alloc: Global, model: &Model, count: usize) -> Result<Vec<State>, AllocError>
     requires { count ≡ state_count (sizes model.now) }
@@ -77,7 +87,8 @@ fn all_axes(alloc: Global, model: &Model, count: usize) -> Result<Vec<Axis>, All
 impl Space {
     /// The states of a model that has so many of them.
     pub(crate) fn new(alloc: Global, model: &Model, count: usize) -> Result<Space, AllocError>
-        requires { count ≡ state_count (sizes model.now) }
+        requires count { count ≡ state_count (sizes model.now) }
+        requires few { count ≤ state_limit }
         ensures { IfOk result (IsSpace model.now) }
     {
         Ok(Space {

@@ -16,7 +16,7 @@ use crate::backup::{best_action, best_bounds, best_reward};
 use crate::expectation::Work;
 use crate::outlook::Outlook;
 use crate::ranges::Bounds;
-use crate::space::Space;
+use crate::space::{Space, same_state};
 use spd_model::{Model, Side, State};
 use sqlite_items::Items;
 use std::alloc::{AllocError, Global};
@@ -184,7 +184,7 @@ pub(crate) fn residual_place(
     let s = &space.states.as_slice()[place];
     let action = best_action(model, rows[place].as_slice(), s, space, values, side, work)?;
     Ok(ResidualPlace {
-        state: State::of(s.values()),
+        state: same_state(model, s),
         side,
         action,
     })

@@ -15,7 +15,7 @@ ghost use Rattle.spd_plain.specs.Space.{IsSpace, IsAxis};
 use crate::chances::chance_sum;
 use crate::reach::Reach;
 use crate::scales::{ONE, REWARD_LIMIT};
-use crate::space::{Axis, Space};
+use crate::space::{Axis, Space, same_state};
 use spd_model::{Action, Model, State, Tree};
 use spd_scaled::floor_div;
 use sqlite_items::Items;
@@ -67,13 +67,15 @@ fn wrong_sum_at(
     requires space { IsSpace model.now space.now }
     ensures { option_map sum_record result ≡ wrong_sum_at_of model.now (number, action.now) axis.now.var s.now }
 {
+    // Reading a field tells the proof what every model keeps.
+    let _vars = &model.vars;
     for place in 0..sum_count(axis, reach) {
         let sum = chance_sum(model, action, s, axis, space, place);
         if sum != ONE {
             return Some(WrongSum {
                 action: number as u32,
                 var: axis.var as u32,
-                state: State::of(s.values()),
+                state: same_state(model, s),
                 sum,
             });
         }
@@ -120,6 +122,8 @@ fn wrong_sum_after(
     requires space { IsSpace model.now space.now }
     ensures { option_map sum_record result ≡ wrong_sum_after_of model.now (number, action.now) }
 {
+    // Reading a field tells the proof what every model keeps.
+    let _vars = &model.vars;
     let axes = space.axes.as_slice();
     for var in 0..axes.len() {
         let wrong = wrong_sum_of_var(model, number, action, &axes[var], reaches[var], space);
@@ -131,7 +135,11 @@ fn wrong_sum_after(
 }
 
 /// The first sum of probabilities that isn't one, by action, variable and state.
-pub(crate) fn first_wrong_sum(model: &Model, reaches: &[Items<Reach>], space: &Space) -> Option<WrongSum>
+pub(crate) fn first_wrong_sum(
+    model: &Model,
+    reaches: &[Items<Reach>],
+    space: &Space,
+) -> Option<WrongSum>
     requires reaches { reaches.now ≡ reaches_of model.now }
     requires space { IsSpace model.now space.now }
     ensures { option_map sum_record result ≡ first_wrong_sum_of model.now }
@@ -171,7 +179,12 @@ pub(crate) fn reward(model: &Model, action: &Action, s: &State) -> i128
 }
 
 /// The first state at which an action's reward passes its limit.
-fn wide_reward_after(model: &Model, number: usize, action: &Action, space: &Space) -> Option<WideReward>
+fn wide_reward_after(
+    model: &Model,
+    number: usize,
+    action: &Action,
+    space: &Space,
+) -> Option<WideReward>
     requires number { number < 64 }
     requires action { Contains model.now.actions action.now }
     requires space { IsSpace model.now space.now }
@@ -182,7 +195,7 @@ fn wide_reward_after(model: &Model, number: usize, action: &Action, space: &Spac
         if value.unsigned_abs() > REWARD_LIMIT {
             return Some(WideReward {
                 action: number as u32,
-                state: State::of(s.values()),
+                state: same_state(model, s),
                 value,
             });
         }

@@ -10,11 +10,11 @@
 mod command;
 mod file;
 mod message;
-mod names;
 mod pieces;
 mod run;
 mod small;
 mod solving;
+mod states;
 mod status;
 mod tables;
 #[cfg(test)]

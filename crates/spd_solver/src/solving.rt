@@ -6,12 +6,13 @@ ghost use Rattle.spd_solver.specs.Solve.{RefusesProcess};
 ghost use Rattle.spd_solver.specs.inner.Stages.{IsSolution, told_fault, unsolved_status};
 ghost use Rattle.spd_solver.specs.declared.solving.Unsolved.TheVariants as Unsolved;
 
-use crate::names::{action_name, state_text, var_name};
+use crate::states::state_text;
 use crate::tables::iterate_of;
 use spd_bellman::{law_bound, law_bounded};
 use spd_frozen::Iterate;
 use spd_model::{Model, Options, Text, Why};
 use spd_plain::{PlainFault, plain_solve};
+use spd_text::{action_name, var_name};
 use sqlite_items::Items;
 use std::alloc::{AllocError, Global};
 

@@ -1,8 +1,8 @@
 -- Texts that are written one after another, by way of bytes that wait.
 use Rattle.spd_edge.specs.declared.outside.Failed.{Failed}
 use Rattle.std.proofs.lemmas.List.{take_at}
-use Rattle.std.proofs.Common.{◌≡◌, ◌<◌, ◌≤◌, ℕ, length, take, drop, take-append-drop, length-append, arith, List, [], ◌∷◌, ◌++◌, Option, None, Some, Ok, Err, Result, refl, sym, ap, ◌∙◌, subst, append_assoc, append-nil}
-use Rattle.std.specs.Prelude.{option_map, OnOk, OnErr}
+use Rattle.std.proofs.Common.{◌≡◌, ◌<◌, ◌≤◌, ℕ, length, take, drop, take-append-drop, length-append, arith, List, [], ◌++◌, Ok, Err, Result, refl, sym, ap, ◌∙◌, subst, append_assoc, append-nil}
+use Rattle.std.specs.Prelude.{OnOk, OnErr, IsOk, IsErr}
 use Rattle.spd_edge.specs.Counts.{Rose}
 use Rattle.spd_edge.specs.Told.{Took, TookFront}
 use Rattle.spd_edge.proofs.CallerLemmas.{Took-trans, Took-nothing}
@@ -90,3 +90,17 @@ writes-whole a b text z (Ok x) e h =
     subst (λ (t : List ℕ). Took a.taken t b.taken) (sym all) h.took
 writes-whole a b text z (Err f) e h = writes-front a b text z f h
 
+-- what is returned where a text failed, with more behind it
+pub writes-exit : {S T E : Type 0} (a b : Shown) (v w z xs whole more : List ℕ) (e : E) (r : Result T E) → IsErr r → whole ≡ xs ++ more → Writes {T = S} a v xs (Err e) b w → Writes a v whole r b z
+writes-exit a b v w z xs whole more e (Ok x) h same k = cc
+writes-exit a b v w z xs whole more e (Err f) h same k = writes-as a b v z (xs ++ more) whole (Err f) (sym same) (writes-failed a b v w z xs more e f k)
+
+-- what was written of a whole text that failed
+pub writes-part : {T E : Type 0} (a b : Shown) (text z : List ℕ) (r : Result T E) → IsErr r → Writes a [] text r b z → Wrote a.taken text r b.taken
+writes-part a b text z (Ok x) e h = cc
+writes-part a b text z (Err f) e h = writes-front a b text z f h
+
+-- a fact on success, where there is success
+pub on-ok : {T E P : Type 0} (r : Result T E) → IsOk r → OnOk r P → P
+on-ok (Ok x) e h = h
+on-ok (Err f) e h = cc

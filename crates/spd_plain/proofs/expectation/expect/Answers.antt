@@ -125,20 +125,21 @@ sum_out-requires-in-loop-var-clause-values c = c.loop-var.invariant.high.bounded
 pub loop-var-preserved : goal.loop-var-preserved
 loop-var-preserved c = record {
   low = summed c.args.model.now (subst IsLawful c.model.view_is c.model.invariant) c.requires.few c.as_slice-axes.result.now (c.as_slice-axes.ensures ∙ c.requires.space.axes) c.loop-var.var c.loop-var-test.true
-    c.requires.valid c.args.action.now c.requires.action c.args.s.now c.requires.state c.tell_chances.new.chances.items c.deref.result.now c.args.values.now c.loop-var.work.low.items c.deref.ensures.value
-    c.in_ok-tell_chances.ensures floor_div c.loop-var.invariant.low c.sum_out.new.values.items c.sum_out.ensures.count c.sum_out.ensures.each c.sum_out.ensures.bounded;
+      c.requires.valid c.args.action.now c.requires.action c.args.s.now c.requires.state c.tell_chances.new.chances.items c.deref.result.now c.args.values.now c.loop-var.work.low.items c.deref.ensures.value
+      c.in_ok-tell_chances.ensures floor_div c.loop-var.invariant.low c.sum_out.new.values.items c.sum_out.ensures.count c.sum_out.ensures.each c.sum_out.ensures.bounded;
   high = summed c.args.model.now (subst IsLawful c.model.view_is c.model.invariant) c.requires.few c.as_slice-axes.result.now (c.as_slice-axes.ensures ∙ c.requires.space.axes) c.loop-var.var c.loop-var-test.true
-    c.requires.valid c.args.action.now c.requires.action c.args.s.now c.requires.state c.tell_chances.new.chances.items c.deref-in-loop-var.result.now c.args.values.now c.loop-var.work.high.items c.deref-in-loop-var.ensures.value
-    c.in_ok-tell_chances.ensures ceil_div c.loop-var.invariant.high c.sum_out-in-loop-var.new.values.items c.sum_out-in-loop-var.ensures.count c.sum_out-in-loop-var.ensures.each c.sum_out-in-loop-var.ensures.bounded;
+      c.requires.valid c.args.action.now c.requires.action c.args.s.now c.requires.state c.tell_chances.new.chances.items c.deref-in-loop-var.result.now c.args.values.now c.loop-var.work.high.items c.deref-in-loop-var.ensures.value
+      c.in_ok-tell_chances.ensures ceil_div c.loop-var.invariant.high c.sum_out-in-loop-var.new.values.items c.sum_out-in-loop-var.ensures.count c.sum_out-in-loop-var.ensures.each c.sum_out-in-loop-var.ensures.bounded;
 }
 
 all_out : (c : goal.After-loop-var) → c.loop-var.var ≡ length c.args.model.now.vars
 all_out c = omega (arith, length-below (axis_of c.args.model.now) (length c.args.model.now.vars) c.as_slice-axes.result.now (c.as_slice-axes.ensures ∙ c.requires.space.axes))
 
 pub returns-clause-count : goal.returns-clause-count
-returns-clause-count c =
-    (expects_one c.args.model.now c.args.action.now c.args.s.now _ floor_div c.loop-var.var c.loop-var.work.low.items c.loop-var.invariant.low (all_out c),
-     expects_one c.args.model.now c.args.action.now c.args.s.now _ ceil_div c.loop-var.var c.loop-var.work.high.items c.loop-var.invariant.high (all_out c))
+returns-clause-count c = (
+  expects_one c.args.model.now c.args.action.now c.args.s.now _ floor_div c.loop-var.var c.loop-var.work.low.items c.loop-var.invariant.low (all_out c),
+  expects_one c.args.model.now c.args.action.now c.args.s.now _ ceil_div c.loop-var.var c.loop-var.work.high.items c.loop-var.invariant.high (all_out c),
+)
 
 pub returns-clause-low : goal.returns-clause-low
 returns-clause-low c = expects_all c.args.model.now c.args.action.now c.args.s.now _ floor_div c.loop-var.var c.loop-var.work.low.items c.loop-var.invariant.low (all_out c)

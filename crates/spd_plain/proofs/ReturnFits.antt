@@ -1,0 +1,25 @@
+-- Each step of a return of bounded values fits 128 bits.
+use Rattle.std.proofs.Common.{◌≡◌, ◌∙◌, ℕ, ◌≤◌, ◌<◌, List, length, get_or, All, ℤ, pos, ◌+ℤ◌, ◌*ℤ◌, FitsSigned, sym, subst, arith}
+use Rattle.std.proofs.lemmas.Int.{ints}
+use Rattle.std.proofs.lemmas.List.{get_or_default}
+use mir.Syntax.{w128}
+use Rattle.spd_scaled.specs.Scaled.{IsWithin, floor_div}
+use Rattle.spd_scaled.proofs.CallerLemmas.Magnitude.{fits_within}
+use Rattle.spd_model.specs.Chances.{discount_one, reward_limit}
+use Rattle.spd_model.specs.Backup.{Rounding}
+use Rattle.spd_model.specs.Turns.{value_limit}
+use Rattle.spd_model.proofs.CallerLemmas.Bounded.{IsLimited, KeepsWithin, floor_keeps, discounted_limit, product_within, return_within}
+
+pub product_fits : (g : ℕ) (e : ℤ) → g ≤ 999999 → IsLimited e → FitsSigned w128 (pos g *ℤ e)
+product_fits g e p h = fits_within w128 (pos discounted_limit *ℤ pos discount_one) _ (omega (arith, ints)) (product_within floor_div floor_keeps g e p h)
+
+pub return_fits : (round : Rounding) → KeepsWithin round → (reward : ℤ) (g : ℕ) (e : ℤ) → IsWithin (pos reward_limit) reward → g ≤ 999999 → IsLimited e
+    → FitsSigned w128 (reward +ℤ round (pos g *ℤ e) (pos discount_one))
+return_fits round k reward g e r p h = fits_within w128 (pos value_limit) _ (omega (arith, ints)) (return_within round k reward g e r p h)
+
+-- the only entry of a table
+pub only_entry : (values : List ℤ) (x e : ℤ) → length values ≡ 1 → get_or values 0 (pos 0) ≡ e → x ≡ get_or values 0 x → x ≡ e
+only_entry values x e count told is = is ∙ get_or_default values 0 x (pos 0) (omega arith) ∙ told
+
+pub only_limited : (values : List ℤ) (x : ℤ) → length values ≡ 1 → All (IsWithin (pos value_limit)) values → x ≡ get_or values 0 x → IsLimited x
+only_limited values x count bounded is = subst IsLimited (sym is) (bounded 0 x (omega arith))

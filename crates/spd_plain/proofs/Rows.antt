@@ -1,0 +1,89 @@
+-- What stands in a row of outlooks, and the greatest over a row.
+use Rattle.std.proofs.Common.{◌≡◌, ◌∙◌, ℕ, suc, ◌+◌, ◌<◌, ◌≤◌, List, [], ◌∷◌, ◌++◌, length, map, take, get_or, Contains, ℤ, refl, ap, sym, subst, arith}
+use Rattle.std.specs.Int.{int_max}
+use Rattle.std.proofs.lemmas.List.{get_or-map, get_or_default, take_more, map_push, length-take, take_all}
+use Rattle.std.proofs.Math.ListN.{length-map}
+use Rattle.spd_model.specs.declared.process.Action.{Action}
+use Rattle.spd_model.specs.declared.Side.{Side}
+use Rattle.spd_model.specs.declared.Side.TheVariants.{Above, Below}
+use Rattle.spd_model.specs.Process.{Process}
+use Rattle.spd_model.specs.Numbers.{greatest, first_place}
+use Rattle.spd_model.specs.States.{sizes, states, state_count}
+use Rattle.spd_model.specs.Chances.{reward_of}
+use Rattle.spd_model.proofs.CallerLemmas.StateOrder.{get_or-table_of, length-table_of}
+use Rattle.spd_model.proofs.CallerLemmas.Greatest.{fold-push, IsFirstBest, first_best_start, first_place_is}
+use Rattle.spd_plain.specs.declared.outlook.Outlook.{Outlook}
+use Rattle.spd_plain.specs.Outlooks.{outlook_of, outlooks_at, outlooks_of}
+use Rattle.spd_plain.specs.Sweeps.{bound_on, action_on}
+
+pub action_read : (m : Process) (actions : List Action) (k : ℕ) (a : Action) → actions ≡ m.actions → k < length actions → a ≡ get_or actions k a → Contains m.actions a
+action_read m actions k a are near is = subst (λ l. Contains l a) are (k, near, sym is)
+
+pub outlook_read : (m : Process) (s : List ℕ) (row : List Outlook) (actions : List Action) (k : ℕ) (x : Outlook) (a : Action) → row ≡ outlooks_at m s → actions ≡ m.actions
+    → k < length actions → x ≡ get_or row k x → a ≡ get_or actions k a → x ≡ outlook_of m s a
+outlook_read m s row actions k x a row_is are near x_is a_is =
+    x_is ∙ ap (λ (l : List Outlook). get_or l k x) row_is
+    ∙ get_or-map (outlook_of m s) m.actions k a x (omega (arith, ap length are))
+    ∙ ap (outlook_of m s) (ap (λ (l : List Action). get_or l k a) (sym are) ∙ sym a_is)
+
+pub length-row : (m : Process) (s : List ℕ) (row : List Outlook) (actions : List Action) → row ≡ outlooks_at m s → actions ≡ m.actions → length row ≡ length actions
+length-row m s row actions row_is are = ap length row_is ∙ length-map m.actions (outlook_of m s) ∙ sym (ap length are)
+
+-- the greatest of one entry, and of one more
+pub take_one : {X : Type 0} (f : X → ℤ) (xs : List X) (d : X) → 0 < length xs → map f (take 1 xs) ≡ f (get_or xs 0 d) ∷ []
+take_one f [] d some = absurd (omega arith)
+take_one f (x ∷ xs) d some = refl
+
+greatest_push : (xs : List ℤ) (y : ℤ) → 0 < length xs → greatest (xs ++ y ∷ []) ≡ int_max (greatest xs) y
+greatest_push [] y some = absurd (omega arith)
+greatest_push (x ∷ xs) y some = fold-push x xs y
+
+pub greatest_one_more : {X : Type 0} (f : X → ℤ) (xs : List X) (k : ℕ) (x : X) (best here most : ℤ) → 0 < k → k < length xs → x ≡ get_or xs k x → best ≡ greatest (map f (take k xs)) → here ≡ f x
+    → most ≡ int_max best here → most ≡ greatest (map f (take (k + 1) xs))
+greatest_one_more f xs k x best here most some near is so_far here_is most_is =
+    most_is ∙ (λ i. int_max (so_far i) ((here_is ∙ ap f is) i))
+    ∙ sym (ap (λ l. greatest (map f l)) (take_more xs k x near) ∙ ap greatest (map_push f (take k xs) (get_or xs k x))
+    ∙ greatest_push (map f (take k xs)) (f (get_or xs k x)) (omega (arith, length-map (take k xs) f, length-take_near xs k near)))
+  where
+    length-take_near : {X : Type 0} (xs : List X) (k : ℕ) → k < length xs → length (take k xs) ≡ k
+    length-take_near xs k near = length-take k xs ∙ omega arith
+
+-- the first action with the greatest bound on a side
+pub first_on : (side : Side) (m : Process) (w : List ℕ → ℤ) (s : List ℕ) → first_place (greatest (map (λ a. bound_on side m w a s) m.actions)) (map (λ a. bound_on side m w a s) m.actions)
+    ≡ action_on side m w s
+first_on Above m w s = refl
+first_on Below m w s = refl
+
+map-map : {X Y Z : Type 0} (f : Y → Z) (g : X → Y) (xs : List X) → map f (map g xs) ≡ map (λ x. f (g x)) xs
+map-map f g [] = refl
+map-map f g (x ∷ xs) = ap (λ ys. f (g x) ∷ ys) (map-map f g xs)
+
+-- the row of a place
+pub row_read : (m : Process) (rows : List (List Outlook)) (k : ℕ) (row : List Outlook) (s : List ℕ) → rows ≡ outlooks_of m → k < state_count (sizes m) → row ≡ get_or rows k row
+    → s ≡ get_or (states (sizes m)) k [] → row ≡ outlooks_at m s
+row_read m rows k row s are near is here =
+    is ∙ ap (λ (l : List (List Outlook)). get_or l k row) are ∙ get_or-table_of (sizes m) (outlooks_at m) k row near ∙ ap (outlooks_at m) (sym here)
+
+pub length-rows : (m : Process) (rows : List (List Outlook)) → rows ≡ outlooks_of m → length rows ≡ state_count (sizes m)
+length-rows m rows are = ap length are ∙ length-table_of (sizes m) (outlooks_at m)
+
+-- a table with one entry more
+pub table_more : {A B X : Type 0} (g : A → B) (f : X → B) (xs : List X) (k : ℕ) (d : X) (entries more : List A) (a : A) → k < length xs
+    → map g entries ≡ map f (take k xs) → more ≡ entries ++ a ∷ [] → g a ≡ f (get_or xs k d) → map g more ≡ map f (take (k + 1) xs)
+table_more g f xs k d entries more a near so_far is here =
+    ap (map g) is ∙ map_push g entries a ∙ (λ i. so_far i ++ here i ∷ []) ∙ sym (ap (map f) (take_more xs k d near) ∙ map_push f (take k xs) (get_or xs k d))
+
+pub plain_more : {B X : Type 0} (f : X → B) (xs : List X) (k : ℕ) (d : X) (entries more : List B) (a : B) → k < length xs
+    → entries ≡ map f (take k xs) → more ≡ entries ++ a ∷ [] → a ≡ f (get_or xs k d) → more ≡ map f (take (k + 1) xs)
+plain_more f xs k d entries more a near so_far is here =
+    is ∙ (λ i. so_far i ++ here i ∷ []) ∙ sym (ap (map f) (take_more xs k d near) ∙ map_push f (take k xs) (get_or xs k d))
+
+pub table_done : {B X : Type 0} (f : X → B) (xs : List X) (k : ℕ) (entries : List B) → length xs ≤ k → entries ≡ map f (take k xs) → entries ≡ map f xs
+table_done f xs k entries all so_far = so_far ∙ ap (map f) (take_all k xs all)
+
+-- the rewards of a row
+pub row_some : (m : Process) → 0 < length m.actions → (s : List ℕ) (row : List Outlook) → row ≡ outlooks_at m s → 0 < length row
+row_some m some s row is = omega (arith, ap length is, length-map m.actions (outlook_of m s))
+
+pub rewards_at : (m : Process) (s : List ℕ) (row : List Outlook) → row ≡ outlooks_at m s → greatest (map (λ (o : Outlook). o.reward) row) ≡ greatest (map (λ a. reward_of m a s) m.actions)
+rewards_at m s row is = ap greatest (ap (map (λ (o : Outlook). o.reward)) is ∙ map-map (λ (o : Outlook). o.reward) (outlook_of m s) m.actions)
