@@ -14,6 +14,7 @@ pub mod SweepLaws
 pub mod Runs
 pub mod Shapes
 pub mod Told
+pub mod OneState
 pub mod BitTests
 pub mod Products
 pub mod ReturnFits
