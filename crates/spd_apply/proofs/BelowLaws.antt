@@ -3,10 +3,10 @@ use Rattle.std.proofs.Common.{◌≡◌, ℕ, ◌+◌, ◌*◌, ◌<◌, true, [
 use Rattle.spd_cons_core.specs.declared.key.Entry.{Entry}
 use Rattle.spd_nodes.specs.declared.forest.StoreFault.{StoreFault}
 use Rattle.spd_nodes.specs.declared.forest.StoreFault.TheVariants as F
-use Rattle.spd_nodes.specs.Levels.{slots, levels_of}
+use Rattle.spd_nodes.specs.Levels.{slots}
 use Rattle.spd_nodes.specs.Trees.{Tree, join, CanTest}
 use Rattle.spd_nodes.specs.Shown.{Shown, Grows, MakesTree}
-use Rattle.spd_nodes.proofs.CallerLemmas.{Within, within-yes, within-no, part-fails, part-then, makes_tree-known}
+use Rattle.spd_nodes.proofs.CallerLemmas.{Within, within-yes, within-no, part-fails, part-then}
 use Rattle.spd_apply.specs.Halves.{pair_rank}
 use Rattle.spd_apply.specs.Rules.{Making, below_tree, below_rank, IsBelow, PlansTest}
 use Rattle.spd_apply.specs.declared.rule.Below.{Below}
@@ -81,9 +81,6 @@ module _ (making : Making) (may : Tree → Tree → Type 0) (s : Shown) (f g : E
 
         pub yes-known : v.knows y ≡ true
         yes-known = second.grows.knows y first.ok.knows
-
-        pub level-in : l < levels_of (slots v.sizes)
-        level-in = rw same-sizes p.level_in
 
         pub can-test : CanTest (slots v.sizes) l (v.tree y) (v.tree m)
         can-test = rw (same-sizes, yes-tree, no-tree) p.can_test

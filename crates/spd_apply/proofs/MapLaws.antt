@@ -5,7 +5,7 @@ use Rattle.spd_nodes.specs.declared.leaf.Leaf.{Leaf}
 use Rattle.spd_nodes.specs.declared.leaf.Leaf.TheVariants.{Act}
 use Rattle.spd_nodes.specs.Levels.{levels_of, slots}
 use Rattle.spd_nodes.specs.Trees.{Ends, Tests, IsFrom, IsReduced, value_at}
-use Rattle.spd_nodes.specs.States.{point, plain_part, primed_part, function_of, Agree}
+use Rattle.spd_nodes.specs.States.{point, plain_part, primed_part}
 use Rattle.spd_nodes.specs.Shown.{Shown, IsSound, IsWhole, meaning}
 use Rattle.spd_nodes.proofs.CallerLemmas.{IsTreeFor, IsPointOf, point-parts, positive-slots, rank-view, tree_of-agree, tree_of-value_at}
 use Rattle.spd_apply.specs.declared.rule.Below.TheVariants as B
@@ -15,17 +15,11 @@ use Rattle.spd_apply.specs.Rules.{PlansTest}
 use Rattle.spd_apply.proofs.HalfLaws.{eq-refl}
 use Rattle.spd_apply.proofs.MeetingLaws.{Meets, meets-right, descends}
 use Rattle.spd_apply.proofs.AppliedLaws.{applied-goes, applied-whole, applied-tree_of, value_at-mapped}
-use Rattle.spd_apply.proofs.PlanLaws.{join-ends, fit-leaves}
-
-mark-true : (fits : Leaf → Bool) (x : Leaf) → EachFits fits (Ends x) → fits x ≡ true
-mark-true fits x h = fit-leaves (λ a b. fits b) x x h.all
+use Rattle.spd_apply.proofs.PlanLaws.{join-ends}
 
 module _ (map : Leaf → Leaf) (fits : Leaf → Bool) (s : Shown) (o : IsSound s) (f : Entry) (kf : s.knows f ≡ true) where
   abbrev ds : List ℕ
   ds = slots s.sizes
-
-  pub map-leaf : (x : Leaf) → EachFits fits (s.tree f) → s.tree f ≡ Ends x → fits x ≡ true
-  map-leaf x h e = mark-true fits x (rw e at h)
 
   pub map-plans : (g y n : Entry) (l : ℕ) → EachFits fits (s.tree f) → s.tree f ≡ Tests l (s.tree y) (s.tree n) → s.knows y ≡ true → s.knows n ≡ true
       → PlansTest (λ t u. mapped map t) (λ t u. EachFits fits t) s f g l (B.Pair y y) (B.Pair n n)

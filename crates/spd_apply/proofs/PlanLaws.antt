@@ -1,5 +1,5 @@
 -- How an operation on leaves goes on from two entries.
-use Rattle.std.proofs.Common.{◌≡◌, ℕ, ◌-◌, ◌<◌, ◌≤◌, ◌⊎◌, inl, inr, ◌==◌, Bool, true, false, cond, None, Some, List, refl, sym, ◌∙◌, ap, arith}
+use Rattle.std.proofs.Common.{◌≡◌, ℕ, ◌-◌, ◌<◌, ◌≤◌, ◌⊎◌, inl, inr, ◌==◌, Bool, true, false, cond, Some, List, refl, sym, ◌∙◌, ap, arith}
 use Rattle.std.specs.Prelude.{nat_lt}
 use Rattle.std.proofs.lemmas.Bool.Decides.{nat_tests}
 use Rattle.spd_cons_core.specs.declared.key.Entry.{Entry}
@@ -79,14 +79,6 @@ join-ends l y n a = go (tree_eq y n) refl
     go true e h = (tree_eq-true y n e ∙ h, h)
     go false e h = absurd (cc h)
 
--- two leaves that an operation meets fit
-pub fit-leaves : (fits : Leaf → Leaf → Bool) (x y : Leaf) → AllFit fits (Ends x) (Ends y) → fits x y ≡ true
-fit-leaves fits x y h = go (fits x y) h
-  where
-    go : (b : Bool) → Ends (cond b (Act 1) (Act 0)) ≡ Ends (Act 1) → b ≡ true
-    go true e = refl
-    go false e = absurd (cc e)
-
 -- where one of two views tests a level first, no tree is before it
 pub lower-first : (s : Shown) (a b : View) (f g : Entry) (l : Level) → IsViewOf s f a → IsViewOf s g b → lower_of_views a b ≡ Some l → IsNotBefore l.0 (s.tree f) × IsNotBefore l.0 (s.tree g)
 lower-first s (V.Leaf a) (V.Leaf b) f g l h i e = absurd (cc e)
@@ -143,10 +135,6 @@ module _ (making : Making) (may : Tree → Tree → Type 0) (stop : ℕ) (s : Sh
 module _ (fits : Leaf → Leaf → Bool) (op : Leaf → Leaf → Leaf) (s : Shown) (o : IsSound s) (f g : Entry) (kf : s.knows f ≡ true) (kg : s.knows g ≡ true) (may : MayApply fits s.sizes (s.tree f) (s.tree g)) where
   abbrev slots_of : List ℕ
   slots_of = slots s.sizes
-
-  -- two leaves that it meets fit
-  pub fit-ends : (x y : Leaf) → s.tree f ≡ Ends x → s.tree g ≡ Ends y → fits x y ≡ true
-  fit-ends x y h i = fit-leaves fits x y (rw (h, i) at may.fit)
 
   -- the leaves of the halves fit
   fit-halves : (l : ℕ) → Meets slots_of l (s.tree f) (s.tree g) → MayMeetHalves (applied op) (MayApply fits s.sizes) (levels_of slots_of) s o f g kf kg may.aligned (applied-goes slots_of op) l

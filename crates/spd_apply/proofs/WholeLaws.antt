@@ -1,14 +1,13 @@
 -- What an operation on leaves makes of whole entries.
-use Rattle.std.proofs.Common.{◌≡◌, ℕ, List, [], ◌∷◌, Bool, true, refl, sym, ◌∙◌, ap, subst, Result, Ok, Err, IfOk, IfErr}
+use Rattle.std.proofs.Common.{◌≡◌, ℕ, List, Bool, true, refl, ◌∙◌, subst}
 use Rattle.spd_cons_core.specs.declared.key.Entry.{Entry}
 use Rattle.spd_nodes.specs.declared.leaf.Leaf.{Leaf}
 use Rattle.spd_nodes.specs.declared.leaf.Leaf.TheVariants.{Act}
-use Rattle.spd_nodes.specs.declared.forest.StoreFault.{StoreFault}
 use Rattle.spd_nodes.specs.Levels.{slots}
-use Rattle.spd_nodes.specs.Trees.{Tree, Ends, IsFrom, IsReduced, value_at}
-use Rattle.spd_nodes.specs.States.{Function, point, plain_part, primed_part, test_tree, function_of, Agree}
-use Rattle.spd_nodes.specs.Shown.{Shown, IsSound, MakesOnly, MakesNodesOf, FaultsAt, Faults, KnowsAs, IsWhole, StandsFor, meaning}
-use Rattle.spd_nodes.proofs.CallerLemmas.{IsTreeFor, IsPointOf, point-parts, positive-slots, test_tree-value, tree_of-agree, tree_of-value_at}
+use Rattle.spd_nodes.specs.Trees.{Ends, IsFrom, IsReduced, value_at}
+use Rattle.spd_nodes.specs.States.{point, plain_part, primed_part}
+use Rattle.spd_nodes.specs.Shown.{Shown, IsSound, IsWhole, meaning}
+use Rattle.spd_nodes.proofs.CallerLemmas.{IsTreeFor, IsPointOf, point-parts, positive-slots, tree_of-agree, tree_of-value_at}
 use Rattle.spd_memo.specs.Kept.{KeptAnswers}
 use Rattle.spd_apply.specs.Applied.{applied, fit_mark, AllFit, MayApply}
 use Rattle.spd_apply.specs.Outcome.{at_each, FitEverywhere}

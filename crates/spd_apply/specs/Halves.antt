@@ -1,7 +1,7 @@
 -- A tree where a test holds, and where it doesn't.
 use Rattle.std.specs.Prelude.{◌≡◌, ℕ, ◌<◌, ◌≤◌, ◌⊎◌, ◌==◌, cond, List, max}
 use Rattle.spd_nodes.specs.Levels.{after}
-use Rattle.spd_nodes.specs.Trees.{Tree, Ends, Tests, IsFrom, IsAt, tree_rank}
+use Rattle.spd_nodes.specs.Trees.{Tree, Ends, Tests, IsFrom, tree_rank}
 
 -- a tree where a level's test holds, if it tests that level first, else the tree
 abbrev pub yes_at : ℕ → Tree → Tree

@@ -1,3 +1,5 @@
+//! Diagrams of known size: a sum of weights, and a parity.
+
 ghost use Rattle.std.specs.Prelude.{◌≡◌, ℕ, ◌+◌, ◌*◌, ◌^◌, ◌<◌, IfOk};
 ghost use Rattle.spd_nodes.specs.Shown.{Shown, Grows};
 ghost use Rattle.spd_bench.specs.Built.{twos, IsCount, FitsTo, IsApplied};

@@ -1,3 +1,5 @@
+//! Building diagrams and operations on them, with the nodes and calls that each takes.
+
 ghost use Rattle.std.specs.Prelude.{◌≡◌, ℕ, ◌^◌, ◌<◌, IfOk, true};
 ghost use Rattle.spd_nodes.specs.Shown.{Shown, Grows, IsWhole};
 ghost use Rattle.spd_bench.specs.Built.{twos, IsCount, FitsTo, IsApplied};

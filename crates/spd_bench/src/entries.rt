@@ -1,3 +1,5 @@
+//! Asking a forest for many leaves and tests.
+
 ghost use Rattle.std.specs.Prelude.{◌≡◌, ℕ, ◌<◌, true, All, IfOk};
 ghost use Rattle.spd_nodes.specs.Shown.{Shown, Grows};
 ghost use Rattle.spd_bench.specs.Built.{twos, IsKnownLeaf};

@@ -1,3 +1,5 @@
+//! Why a workload ended early.
+
 use spd_nodes::StoreFault;
 use std::alloc::AllocError;
 use thiserror::Error;

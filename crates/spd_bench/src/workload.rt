@@ -1,3 +1,5 @@
+//! The workloads, and what is measured of them.
+
 use std::fmt;
 use std::fmt::{Display, Formatter, Write};
 

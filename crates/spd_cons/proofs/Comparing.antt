@@ -8,7 +8,7 @@ use Rattle.spd_cons_core.specs.declared.mind.Known.{Known}
 use Rattle.spd_cons_core.specs.declared.mind.Call.{Call}
 use Rattle.spd_cons_core.specs.declared.mind.Last.TheVariants.{Got}
 use Rattle.spd_cons_core.specs.Views.{Seat, Machine}
-use Rattle.spd_cons_core.specs.Spelling.{words_of, start_of}
+use Rattle.spd_cons_core.specs.Spelling.{words_of, first_bucket}
 use Rattle.spd_cons_core.specs.Seats.{entry_words, learned, is_known, same_key, parts_known}
 use Rattle.spd_cons_core.specs.Events.{after_content, after_equal, next_bucket, new_call}
 use Rattle.spd_cons_core.proofs.CallerLemmas.{goes_on, load_content_keeps, learned_known, five_of_key, five_of_entry, same_of_five, same_key_tells}
@@ -66,9 +66,9 @@ ready-at s at v live is = record {
     same = ap (λ (b : Bool). b && true) ((same_key_tells s.key s.key).1 refl)
 
 -- the start isn't met again
-far : (s : Search) (e : Entry) (right : ℕ) (v : View) → Sees v → IsComparing s e right v → next_bucket v.size.count s.at ≢ start_of (words_of s.key) v.size.count
+far : (s : Search) (e : Entry) (right : ℕ) (v : View) → Sees v → IsComparing s e right v → next_bucket v.size.count s.at ≢ first_bucket (words_of s.key) v.size.count
 far s e right v sees at =
-    subst (λ n. next_bucket n s.at ≢ start_of (words_of s.key) n) sees.count
+    subst (λ n. next_bucket n s.at ≢ first_bucket (words_of s.key) n) sees.count
     (goes_on sees.machine sees.sized sees.sound sees.seat (call_at s s.at (Some e) right false (stored_of s)) e (ap (λ (z : Seat). z.live) sees.there ∙ sees.live) (ap (λ (z : Seat). z.call) sees.there ∙ at.call) refl)
 
 pub goes-on : (s : Search) (e : Entry) (right : ℕ) (v w : View) → Sees v → Sees w → IsComparing s e right v → w ≡ record v { mind = record v.mind { call = Some (call_at s (next_bucket v.size.count s.at) None 0 false (stored_of s)) } } → GoesOn v.size.count s v w

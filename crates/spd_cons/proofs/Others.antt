@@ -14,7 +14,7 @@ use Rattle.spd_cons_core.specs.declared.mind.Known.{Known}
 use Rattle.spd_cons_core.specs.Views.{Seat, Machine}
 use Rattle.spd_cons_core.specs.Seats.{spent, seat_at, with_seat, is_known}
 use Rattle.spd_cons_core.specs.Events.{can_split, after_split, split_off, split, can_join, after_join, join, new_machine}
-use Rattle.spd_cons_core.specs.Invariants.{IsSized, IsSound, Keeps}
+use Rattle.spd_cons_core.specs.Invariants.{IsSized, IsSoundMachine, Keeps}
 use Rattle.spd_cons_core.proofs.CallerLemmas.{nothing_contained, keeps_same, known_key, words_tell, split_taken, split_keeps, join_keeps, new_sized, new_sound}
 use Rattle.spd_cons.specs.declared.view.Size.{Size}
 use Rattle.spd_cons.specs.declared.view.View.{View}
@@ -32,7 +32,7 @@ same_seats k s id v at =
     ap (λ m. with_seat c id m) (sym (seat_is k s id v at)) ∙ ap (λ (l : List Seat). record c { seats = l }) (set-get_or c.seats id spent)
 
 -- what a seat has heard of it knows with that key, where it knows it
-pub agreed : (c : Machine) (id : ℕ) (seat : Seat) (x : Known) → IsSound c → seat_at c id ≡ seat → seat.live ≡ true → HasKey c x → is_known seat.knows x.entry ≡ true → Contains seat.knows x
+pub agreed : (c : Machine) (id : ℕ) (seat : Seat) (x : Known) → IsSoundMachine c → seat_at c id ≡ seat → seat.live ≡ true → HasKey c x → is_known seat.knows x.entry ≡ true → Contains seat.knows x
 agreed c id seat x sound same live has known =
     let mine = known_key seat.knows x.entry known in
     let k : Known = record { entry = x.entry; key = mine.0 } in
@@ -178,7 +178,7 @@ opens k ws is low high least most count =
       width = ap length is ∙ length-replicate n z;
       views = λ i v at live. first_only i v at;
       sized = subst IsSized (sym new) (new_sized k.limit k.most k.count low high least most count);
-      sound = subst IsSound (sym new) (new_sound k.limit k.most k.count least);
+      sound = subst IsSoundMachine (sym new) (new_sound k.limit k.most k.count least);
     }
   where
     first_only : (i : ℕ) (v : View) → get_elem? (first_view k ∷ []) i ≡ some v → IsView k (machine_of k (opening ws [] (first_view k))) v

@@ -9,7 +9,7 @@ use Rattle.spd_cons_core.specs.declared.mind.Known.{Known}
 use Rattle.spd_cons_core.specs.Views.{Seat, Machine}
 use Rattle.spd_cons_core.specs.Spelling.{words_of, IsKey}
 use Rattle.spd_cons_core.specs.Seats.{Names, entry_words}
-use Rattle.spd_cons_core.specs.Invariants.{IsSized, IsSound}
+use Rattle.spd_cons_core.specs.Invariants.{IsSized, IsSoundMachine}
 use Rattle.spd_cons.specs.declared.view.Size.{Size}
 use Rattle.spd_cons.specs.declared.view.View.{View}
 use Rattle.spd_cons.specs.Values.{first_mind}
@@ -56,7 +56,7 @@ pub record IsRuled (k : Size) (s : Running) : Type 0 where
   pub width : length s.words ≡ 1 + k.count + 5 * (k.limit + k.most)
   pub views : (i : ℕ) (v : View) → get_elem? s.views i ≡ some v → v.mind.live ≡ true → IsView k (machine_of k s) v
   pub sized : IsSized (machine_of k s)
-  pub sound : IsSound (machine_of k s)
+  pub sound : IsSoundMachine (machine_of k s)
 
 abbrev pub first_view : Size → View
 first_view k = record { size = k; mind = first_mind k; heard = [] }

@@ -6,7 +6,7 @@ use Rattle.spd_cons_core.specs.declared.key.Key.{Key}
 use Rattle.spd_cons_core.specs.declared.mind.Known.{Known}
 use Rattle.spd_cons_core.specs.declared.mind.Call.{Call}
 use Rattle.spd_cons_core.specs.Seats.{learned}
-use Rattle.spd_cons_core.specs.Spelling.{words_of, start_of}
+use Rattle.spd_cons_core.specs.Spelling.{words_of, first_bucket}
 use Rattle.spd_cons_core.specs.Events.{can_load_bucket, call_for, next_bucket}
 use Rattle.spd_cons.specs.declared.view.Size.{Size}
 use Rattle.spd_cons.specs.declared.view.View.{View}
@@ -57,7 +57,7 @@ pub record Knows (s : Search) (e : Entry) (v w : View) : Type 0 where
 pub record GoesOn (count : ℕ) (s : Search) (v w : View) : Type 0 where
   pub ready : IsReady s (next_bucket count s.at) w
   pub held : held w ≡ held v
-  pub far : next_bucket count s.at ≢ start_of (words_of s.key) count
+  pub far : next_bucket count s.at ≢ first_bucket (words_of s.key) count
   pub spare : w.mind.spare ≡ None → v.mind.spare ≡ None
 
 pub record Compares (count : ℕ) (s : Search) (e : Entry) (v w : View) (right : Bool) : Type 0 where

@@ -8,7 +8,7 @@ use Rattle.spd_cons_core.specs.declared.mind.Known.{Known}
 use Rattle.spd_cons_core.specs.Views.{Seat, Machine}
 use Rattle.spd_cons_core.specs.Seats.{spent, seat_at, bucket_count, is_known, parts_known, learned}
 use Rattle.spd_cons_core.specs.Events.{after_join}
-use Rattle.spd_cons_core.specs.Invariants.{IsSized, IsSound, shares, filled, times_listed}
+use Rattle.spd_cons_core.specs.Invariants.{IsSized, IsSoundMachine, shares, filled, times_listed}
 use Rattle.spd_cons.specs.declared.view.Size.{Size}
 
 -- which table it is, with its limit and its numbers of seats and of buckets
@@ -37,7 +37,7 @@ pub record IsSeated (size : Size) (mind : Seat) : Type 0 where
   pub machine : Machine
   pub seat : ℕ
   pub sized : IsSized machine
-  pub sound : IsSound machine
+  pub sound : IsSoundMachine machine
   pub limit : machine.limit ≡ size.limit
   pub most : machine.most ≡ size.most
   pub count : bucket_count machine ≡ size.count

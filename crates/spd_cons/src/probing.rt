@@ -1,6 +1,6 @@
 //! The steps of a search.
 ghost use Rattle.std.specs.Prelude.{◌≡◌, ◌+◌, ◌<◌, true, false, Some, None, IfSome, IfNone, IsTrue, IsFalse, is_none, ◌&&◌, ◌⊎◌, [], ◌∷◌, ◌++◌};
-ghost use Rattle.spd_cons_core.specs.Spelling.{IsKey, words_of, start_of};
+ghost use Rattle.spd_cons_core.specs.Spelling.{IsKey, words_of, first_bucket};
 ghost use Rattle.spd_cons.specs.Shown.{IsActive, view_of};
 ghost use Rattle.spd_cons.specs.Searching.{held, IsReady, IsComparing, GoesOn, IsEmpty, Compares, LooksInto, Publishes, stored_of, HasSpare, Ends, Probes, IsSame, IsUnknown, StandsAt, Knows};
 
@@ -263,7 +263,7 @@ impl WordTable {
         requires key { K.key ≡ search.old.key }
         requires fits { IsKey search.old.key }
         requires ready { IsReady search.old search.old.at (view_of active.old) }
-        requires start { search.old.at ≡ start_of (words_of search.old.key) self.now.size.count }
+        requires start { search.old.at ≡ first_bucket (words_of search.old.key) self.now.size.count }
         requires within { search.old.at < self.now.size.count }
         ensures own { active.new.token.table_id ≡ active.old.token.table_id }
         ensures active { IsActive active.new }

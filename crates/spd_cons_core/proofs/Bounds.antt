@@ -9,7 +9,7 @@ use Rattle.spd_cons_core.specs.declared.key.Entry.{Entry}
 use Rattle.spd_cons_core.specs.declared.mind.Call.{Call}
 use Rattle.spd_cons_core.specs.Views.{Seat, Machine}
 use Rattle.spd_cons_core.specs.Seats.{spent, seat_at, bucket, bucket_count, Names}
-use Rattle.spd_cons_core.specs.Invariants.{IsSized, IsSound, shares, stands_at_end}
+use Rattle.spd_cons_core.specs.Invariants.{IsSized, IsSoundMachine, shares, stands_at_end}
 use Rattle.spd_cons_core.proofs.Writes.{live_within, share_of, share_live}
 
 -- a power of two between two neighbouring ones is the lower one
@@ -26,18 +26,18 @@ power_between n r (k, is) low high =
     (cases_order k r)
 
 -- what stands in a bucket
-pub bucket_below : (c : Machine) → IsSized c → IsSound c → (b : ℕ) → bucket c b ≤ c.limit + c.most
+pub bucket_below : (c : Machine) → IsSized c → IsSoundMachine c → (b : ℕ) → bucket c b ≤ c.limit + c.most
 bucket_below c sized sound b =
     ⊎_elim (λ (empty : bucket c b ≡ 0). omega arith)
     (λ (full : bucket c b ≡ 0 → ⊥). let names : Names c b (bucket c b - 1) = omega (arith, full) in
     let low = (sound.only_claimed b (bucket c b - 1) names).below_end in omega arith)
     (cases_eq (bucket c b) 0)
 
-pub bucket_small : (c : Machine) → IsSized c → IsSound c → (b : ℕ) → bucket c b ≤ 2 ^ 32
+pub bucket_small : (c : Machine) → IsSized c → IsSoundMachine c → (b : ℕ) → bucket c b ≤ 2 ^ 32
 bucket_small c sized sound b = let low = bucket_below c sized sound b in let a = sized.limit_high in let m = sized.most_high in omega arith
 
 -- a live seat has no more shares than there are
-pub shares_below : (c : Machine) → IsSound c → (i : ℕ) → (seat_at c i).live ≡ true → shares (seat_at c i) ≤ c.most
+pub shares_below : (c : Machine) → IsSoundMachine c → (i : ℕ) → (seat_at c i).live ≡ true → shares (seat_at c i) ≤ c.most
 shares_below c sound i live =
     let part = get_or-le-sum_by (share_of shares) c.seats i spent (live_within c.seats i live) in
     let mine = share_live shares (seat_at c i) live in
@@ -52,19 +52,19 @@ share_le s = by_case s.live s.ended s.stands s.splits
     by_case false b m n = omega arith
 
 -- each seat claims at most once past the end
-pub claims_below : (c : Machine) → IsSound c → c.claims ≤ c.limit + 2 * c.most
+pub claims_below : (c : Machine) → IsSoundMachine c → c.claims ≤ c.limit + 2 * c.most
 claims_below c sound =
     let a = sum_by-le-sum_by (share_of stands_at_end) (share_of shares) c.seats share_le in
     let bound = sound.claims_bound in
     let all = sound.all_seats in omega arith
 
 -- a call's bucket is one of the buckets
-pub call_within : (c : Machine) → IsSound c → (i : ℕ) (seat : Seat) (call : Call) → seat ≡ seat_at c i → seat.live ≡ true → seat.call ≡ Some call → call.at < bucket_count c
+pub call_within : (c : Machine) → IsSoundMachine c → (i : ℕ) (seat : Seat) (call : Call) → seat ≡ seat_at c i → seat.live ≡ true → seat.call ≡ Some call → call.at < bucket_count c
 call_within c sound i seat call same live is =
     ((sound.seats i (ap (λ (s : Seat). s.live) (sym same) ∙ live)).search call (ap (λ (s : Seat). s.call) (sym same) ∙ is)).at_bucket
 
 -- an entry that was found is one of the entries
-pub found_within : (c : Machine) → IsSized c → IsSound c → (i : ℕ) (seat : Seat) (call : Call) (e : Entry) → seat ≡ seat_at c i → seat.live ≡ true → seat.call ≡ Some call → call.found ≡ Some e → e.0 < length c.entries
+pub found_within : (c : Machine) → IsSized c → IsSoundMachine c → (i : ℕ) (seat : Seat) (call : Call) (e : Entry) → seat ≡ seat_at c i → seat.live ≡ true → seat.call ≡ Some call → call.found ≡ Some e → e.0 < length c.entries
 found_within c sized sound i seat call e same live is found =
     let search = (sound.seats i (ap (λ (s : Seat). s.live) (sym same) ∙ live)).search call (ap (λ (s : Seat). s.call) (sym same) ∙ is) in
     let below = (sound.only_claimed call.at e.0 (search.found e found).0).below_end in

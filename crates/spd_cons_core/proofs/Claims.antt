@@ -1,16 +1,17 @@
 -- The law of a claim.
 use Rattle.std.proofs.Common.{◌≡◌, ◌≢◌, ℕ, ◌+◌, ◌<◌, ◌≤◌, Bool, true, false, cond, not, ltb, min, List, take, length, set, Option, Some, None, is_none, refl, sym, ap, ◌∙◌, arith}
 use Rattle.std.proofs.lemmas.Bool.{true≢false, and_parts, cond_both, ltb-true, ltb-false, not-true}
+use Rattle.std.proofs.lemmas.Option.{none-some, same_Some}
 use Rattle.spd_cons_core.specs.declared.key.Entry.{Entry}
 use Rattle.spd_cons_core.specs.declared.mind.Last.TheVariants.{Full}
 use Rattle.spd_cons_core.specs.Views.{Seat, Machine}
 use Rattle.spd_cons_core.specs.Spelling.{words_of}
 use Rattle.spd_cons_core.specs.Seats.{seat_at, entry, entry_words}
 use Rattle.spd_cons_core.specs.Events.{can_claim, claim}
-use Rattle.spd_cons_core.specs.Invariants.{IsSized, IsSeat, IsSound, Keeps, total, times_listed, shares, stands_at_end}
+use Rattle.spd_cons_core.specs.Invariants.{IsSized, IsSeat, IsSoundMachine, Keeps, total_over_seats, times_listed, shares, stands_at_end}
 use Rattle.spd_cons_core.proofs.Writes.{total_set, total_same}
 use Rattle.spd_cons_core.proofs.Growth.{Grows, LeavesSpare, known_moved, search_moved, grow_claimed}
-use Rattle.spd_cons_core.proofs.Quiet.{keeps_same, none≢some, some_same, seats_changed, spares_changed, spare_kept}
+use Rattle.spd_cons_core.proofs.Quiet.{keeps_same, seats_changed, spares_changed, spare_kept}
 
 -- the machine with one more claim, and the seat that made it
 abbrev with_claim : Machine → ℕ → Seat → Machine
@@ -29,13 +30,13 @@ record IsCounted (c : Machine) (i : ℕ) (w : Seat) : Type 0 where
   stands : w.stands ≡ (seat_at c i).stands
   splits : w.splits ≡ (seat_at c i).splits
   counted : w.unpublished + min c.claims (c.limit + c.most) ≡ (seat_at c i).unpublished + min (c.claims + 1) (c.limit + c.most)
-  ends : c.claims + 1 + stands_at_end (seat_at c i) ≤ ((c.limit + c.most) + total stands_at_end c) + stands_at_end w
+  ends : c.claims + 1 + stands_at_end (seat_at c i) ≤ ((c.limit + c.most) + total_over_seats stands_at_end c) + stands_at_end w
   alone : (e : Entry) → w.spare ≡ Some e → (j : ℕ) → j ≢ i → (seat_at c j).live ≡ true → (seat_at c j).spare ≡ Some e → ⊥
 
-claim_changes : (c : Machine) (i : ℕ) (w : Seat) → IsSized c → IsSound c → (seat_at c i).live ≡ true → IsSeat (with_claim c i w) w → IsCounted c i w → Keeps c (with_claim c i w)
+claim_changes : (c : Machine) (i : ℕ) (w : Seat) → IsSized c → IsSoundMachine c → (seat_at c i).live ≡ true → IsSeat (with_claim c i w) w → IsCounted c i w → Keeps c (with_claim c i w)
 claim_changes c i w sized sound live mine is =
     let d : Machine = with_claim c i w in
-    let listed : (e : ℕ) → total (times_listed e) d ≡ total (times_listed e) c = λ e. total_same (times_listed e) c.seats i w live is.live (ap (λ (p : List Entry). times_listed e (record w { published = p })) is.published) in
+    let listed : (e : ℕ) → total_over_seats (times_listed e) d ≡ total_over_seats (times_listed e) c = λ e. total_same (times_listed e) c.seats i w live is.live (ap (λ (p : List Entry). times_listed e (record w { published = p })) is.published) in
     let unpublished = total_set (λ s. s.unpublished) c.seats i w live is.live in
     let lists = total_same (λ s. length s.published) c.seats i w live is.live (ap length is.published) in
     let sums = total_same shares c.seats i w live is.live (λ x. is.stands x + is.splits x) in
@@ -91,7 +92,7 @@ can seat test =
     none_is (Some x) e = absurd (true≢false (sym e))
 
 -- a claim below the end
-with_spare : (c : Machine) (i : ℕ) → IsSized c → IsSound c → IsClaiming (seat_at c i) → c.claims < c.limit + c.most
+with_spare : (c : Machine) (i : ℕ) → IsSized c → IsSoundMachine c → IsClaiming (seat_at c i) → c.claims < c.limit + c.most
     → Keeps c (with_claim c i (record (seat_at c i) { spare = Some (entry c.claims); unpublished = (seat_at c i).unpublished + 1 }))
 with_spare c i sized sound may room =
     let seat : Seat = seat_at c i in
@@ -104,17 +105,17 @@ with_spare c i sized sound may room =
     record {
       known = known_moved c (with_claim c i w) (grows c i w) seat w refl was.known;
       own_known = was.own_known;
-      spare = λ e is. let same : c.claims ≡ e.0 = ap (λ (x : Entry). x.0) (some_same (entry c.claims) e is) in record {
+      spare = λ e is. let same : c.claims ≡ e.0 = ap (λ (x : Entry). x.0) (same_Some (entry c.claims) e is) in record {
         claimed = record { below_claims = omega arith; below_end = omega arith };
         unpublished = λ b names. let old = (sound.only_claimed b e.0 names).below_claims in omega arith;
         counted = omega arith;
       };
       search = λ call is. let s = was.search call is in search_moved c (with_claim c i w) (grows c i w) seat w refl call s
           (λ e _. ap (λ n. take n (entry_words c e.0)) (s.none_stored may.no_spare) ∙ ap (λ n. take n (words_of call.key)) (sym (s.none_stored may.no_spare)))
-          (λ none. absurd (none≢some (entry c.claims) (sym none)));
+          (λ none. absurd (none-some (entry c.claims) (sym none)));
       stands = was.stands;
       unpublished = omega arith;
-      less_without_spare = λ none. absurd (none≢some (entry c.claims) (sym none));
+      less_without_spare = λ none. absurd (none-some (entry c.claims) (sym none));
       less_at_end = λ ended. absurd (true≢false (sym ended ∙ may.going_on));
       end_met = λ ended. absurd (true≢false (sym ended ∙ may.going_on));
     }
@@ -125,12 +126,12 @@ with_spare c i sized sound may room =
       splits = refl;
       counted = omega arith;
       ends = omega arith;
-      alone = λ e is j other there its. let same : c.claims ≡ e.0 = ap (λ (x : Entry). x.0) (some_same (entry c.claims) e is) in
+      alone = λ e is j other there its. let same : c.claims ≡ e.0 = ap (λ (x : Entry). x.0) (same_Some (entry c.claims) e is) in
           let low = ((sound.seats j there).spare e its).claimed.below_claims in absurd (omega arith);
     }
 
 -- a claim past the end
-at_end : (c : Machine) (i : ℕ) → IsSized c → IsSound c → IsClaiming (seat_at c i) → c.limit + c.most ≤ c.claims
+at_end : (c : Machine) (i : ℕ) → IsSized c → IsSoundMachine c → IsClaiming (seat_at c i) → c.limit + c.most ≤ c.claims
     → Keeps c (with_claim c i (record (seat_at c i) { ended = true; call = None; last = Full }))
 at_end c i sized sound may past =
     let seat : Seat = seat_at c i in
@@ -144,8 +145,8 @@ at_end c i sized sound may past =
     record {
       known = known_moved c (with_claim c i w) (grows c i w) seat w refl was.known;
       own_known = was.own_known;
-      spare = λ e is. absurd (none≢some e (sym may.no_spare ∙ is));
-      search = λ call is. absurd (none≢some call is);
+      spare = λ e is. absurd (none-some e (sym may.no_spare ∙ is));
+      search = λ call is. absurd (none-some call is);
       stands = was.stands;
       unpublished = was.unpublished;
       less_without_spare = λ _. less;
@@ -163,7 +164,7 @@ at_end c i sized sound may past =
     }
 
 -- a claim keeps the invariant
-pub claim_keeps : (c : Machine) (i : ℕ) → IsSized c → IsSound c → Keeps c (claim c i)
+pub claim_keeps : (c : Machine) (i : ℕ) → IsSized c → IsSoundMachine c → Keeps c (claim c i)
 claim_keeps c i sized sound =
     cond_both (can_claim (seat_at c i)) _ c (Keeps c)
     (λ test. let may = can (seat_at c i) test in

@@ -17,7 +17,7 @@ use Rattle.spd_cons_core.specs.declared.mind.Known.{Known}
 use Rattle.spd_cons_core.specs.Views.{Seat, Machine}
 use Rattle.spd_cons_core.specs.Spelling.{words_of, low, high, IsKey}
 use Rattle.spd_cons_core.specs.Seats.{spent, seat_at, bucket, Names, entry, entry_words, same_key}
-use Rattle.spd_cons_core.specs.Invariants.{IsSound, total, times_listed, filled, shares}
+use Rattle.spd_cons_core.specs.Invariants.{IsSoundMachine, total_over_seats, times_listed, filled, shares}
 use Rattle.spd_cons_core.proofs.Writes.{set_cases, live_within, share_of, share_live, share_spent}
 use Rattle.spd_cons_core.proofs.Knowledge.{contains_cons, known_at}
 
@@ -57,13 +57,13 @@ words_tell (Act a) (Act b) fits fits' same = ap Act (ap (λ ws. get_or ws 1 0) s
 
 -- What seats know agrees ------------------------------------------------------------------------
 
-pub known_keys : (c : Machine) → IsSound c → (i j : ℕ) (k k' : Known) → (seat_at c i).live ≡ true → (seat_at c j).live ≡ true → Contains (seat_at c i).knows k → Contains (seat_at c j).knows k' → k.entry ≡ k'.entry → k.key ≡ k'.key
+pub known_keys : (c : Machine) → IsSoundMachine c → (i j : ℕ) (k k' : Known) → (seat_at c i).live ≡ true → (seat_at c j).live ≡ true → Contains (seat_at c i).knows k → Contains (seat_at c j).knows k' → k.entry ≡ k'.entry → k.key ≡ k'.key
 known_keys c sound i j k k' live live' at at' same =
     let a = (sound.seats i live).known k at in
     let b = (sound.seats j live').known k' at' in
     words_tell k.key k'.key a.in_range b.in_range (sym a.words ∙ (ap (λ (e : Entry). entry_words c e.0) same ∙ b.words))
 
-pub known_entries : (c : Machine) → IsSound c → (i j : ℕ) (k k' : Known) → (seat_at c i).live ≡ true → (seat_at c j).live ≡ true → Contains (seat_at c i).knows k → Contains (seat_at c j).knows k' → k.key ≡ k'.key → k.entry ≡ k'.entry
+pub known_entries : (c : Machine) → IsSoundMachine c → (i j : ℕ) (k k' : Known) → (seat_at c i).live ≡ true → (seat_at c j).live ≡ true → Contains (seat_at c i).knows k → Contains (seat_at c j).knows k' → k.key ≡ k'.key → k.entry ≡ k'.entry
 known_entries c sound i j k k' live live' at at' same =
     let a = (sound.seats i live).known k at in
     let b = (sound.seats j live').known k' at' in
@@ -73,13 +73,13 @@ known_entries c sound i j k k' live live' at at' same =
     let number : k.entry.0 ≡ k'.entry.0 = omega arith in
     ap entry number
 
-pub different_keys : (c : Machine) → IsSound c → (a b d e : ℕ) (key : Key) → Names c a d → Names c b e → a ≢ b → entry_words c d ≡ words_of key → entry_words c e ≢ words_of key
+pub different_keys : (c : Machine) → IsSoundMachine c → (a b d e : ℕ) (key : Key) → Names c a d → Names c b e → a ≢ b → entry_words c d ≡ words_of key → entry_words c e ≢ words_of key
 different_keys c sound a b d e key names names' apart is is' = apart (sound.distinct_keys a b d e names names' (is ∙ sym is'))
 
 -- The last seat ---------------------------------------------------------------------------------
 
 -- where one seat has all shares, no other seat is live
-alone : (c : Machine) → IsSound c → (i : ℕ) → (seat_at c i).live ≡ true → shares (seat_at c i) ≡ c.most → (j : ℕ) → j ≢ i → (seat_at c j).live ≡ true → ⊥
+alone : (c : Machine) → IsSoundMachine c → (i : ℕ) → (seat_at c i).live ≡ true → shares (seat_at c i) ≡ c.most → (j : ℕ) → j ≢ i → (seat_at c j).live ≡ true → ⊥
 alone c sound i live all j other there =
     let out = sum_by-set (share_of shares) c.seats i spent spent (live_within c.seats i live) in
     let mine = share_live shares (seat_at c i) live in
@@ -92,7 +92,7 @@ alone c sound i live all j other there =
     absurd (omega arith)
 
 -- so a sum over the live seats is that seat's part
-pub total_alone : (f : Seat → ℕ) (c : Machine) → IsSound c → (i : ℕ) → (seat_at c i).live ≡ true → shares (seat_at c i) ≡ c.most → total f c ≡ f (seat_at c i)
+pub total_alone : (f : Seat → ℕ) (c : Machine) → IsSoundMachine c → (i : ℕ) → (seat_at c i).live ≡ true → shares (seat_at c i) ≡ c.most → total_over_seats f c ≡ f (seat_at c i)
 total_alone f c sound i live all =
     let within = live_within c.seats i live in
     let out = sum_by-set (share_of f) c.seats i spent spent within in
@@ -106,7 +106,7 @@ total_alone f c sound i live all =
     not_live s (inl is) never = absurd (never is)
     not_live s (inr is) never = let z : share_of f s ≡ 0 = ap (λ (b : Bool). cond b (f s) 0) is in omega arith
 
-pub full_table : (c : Machine) → IsSound c → (i : ℕ) → (seat_at c i).live ≡ true → (seat_at c i).ended ≡ true → shares (seat_at c i) ≡ c.most → c.limit < length (seat_at c i).published
+pub full_table : (c : Machine) → IsSoundMachine c → (i : ℕ) → (seat_at c i).live ≡ true → (seat_at c i).ended ≡ true → shares (seat_at c i) ≡ c.most → c.limit < length (seat_at c i).published
 full_table c sound i live ended all =
     let was = sound.seats i live in
     let less = was.less_at_end ended in
@@ -126,7 +126,7 @@ share_stands s = by_case s.live s.stands s.splits
     by_case false m n = omega arith
 
 -- every live seat counts no more entries than the seats that it stands for
-counts_below : (c : Machine) → IsSound c → (j : ℕ) → share_of (λ s. s.unpublished) (seat_at c j) ≤ share_of (λ s. s.stands) (seat_at c j)
+counts_below : (c : Machine) → IsSoundMachine c → (j : ℕ) → share_of (λ s. s.unpublished) (seat_at c j) ≤ share_of (λ s. s.stands) (seat_at c j)
 counts_below c sound j = by_case (cases_Bool (seat_at c j).live)
   where
     by_case : ((seat_at c j).live ≡ true) ⊎ ((seat_at c j).live ≡ false) → share_of (λ s. s.unpublished) (seat_at c j) ≤ share_of (λ s. s.stands) (seat_at c j)
@@ -147,7 +147,7 @@ sums_below (x ∷ xs) each =
     let high : sum_by (share_of (λ s. s.stands)) (x ∷ xs) ≡ share_of (λ s. s.stands) x + sum_by (share_of (λ s. s.stands)) xs = sum_by-cons (share_of (λ s. s.stands)) x xs in
     omega arith
 
-pub filled_above_limit : (c : Machine) → IsSound c → (i : ℕ) → (seat_at c i).live ≡ true → (seat_at c i).ended ≡ true → c.limit < filled c
+pub filled_above_limit : (c : Machine) → IsSoundMachine c → (i : ℕ) → (seat_at c i).live ≡ true → (seat_at c i).ended ≡ true → c.limit < filled c
 filled_above_limit c sound i live ended =
     let was = sound.seats i live in
     let less = was.less_at_end ended in
@@ -183,7 +183,7 @@ listed_there (x ∷ xs) e some = ⊎_elim
     more a b c parts none some = omega arith
 
 -- no live seat lists an entry twice
-pub listed_at_most_once : (c : Machine) → IsSound c → (i : ℕ) → (seat_at c i).live ≡ true → (e : ℕ) → times_listed e (seat_at c i) ≤ 1
+pub listed_at_most_once : (c : Machine) → IsSoundMachine c → (i : ℕ) → (seat_at c i).live ≡ true → (e : ℕ) → times_listed e (seat_at c i) ≤ 1
 listed_at_most_once c sound i live e =
     let part = get_or-le-sum_by (share_of (times_listed e)) c.seats i spent (live_within c.seats i live) in
     let mine = share_live (times_listed e) (seat_at c i) live in

@@ -6,19 +6,20 @@ use Rattle.std.proofs.lemmas.Bool.{and_parts, cond_both, eqb-true, eqb-false, ne
 use Rattle.std.proofs.lemmas.List.{get_or-set_same, get_or-set_other, get_or_past, length-set, length_push, set-get_or}
 use Rattle.std.proofs.lemmas.List.Elements.{Contains-push_cases}
 use Rattle.std.proofs.lemmas.List.Sums.{sum_by-set, sum_by_push}
+use Rattle.std.proofs.lemmas.Option.{none-some, same_Some}
 use Rattle.spd_cons_core.specs.declared.key.Entry.{Entry}
 use Rattle.spd_cons_core.specs.declared.mind.Known.{Known}
 use Rattle.spd_cons_core.specs.declared.mind.Call.{Call}
 use Rattle.spd_cons_core.specs.declared.mind.Last.TheVariants.{Got}
 use Rattle.spd_cons_core.specs.Views.{Seat, Machine}
-use Rattle.spd_cons_core.specs.Spelling.{words_of, start_of}
+use Rattle.spd_cons_core.specs.Spelling.{words_of, first_bucket}
 use Rattle.spd_cons_core.specs.Seats.{seat_at, bucket, bucket_count, entry, entry_words, Names, is_known, learned}
 use Rattle.spd_cons_core.specs.Events.{can_exchange, exchange_in, exchange_bucket}
-use Rattle.spd_cons_core.specs.Invariants.{IsSized, IsClaimed, IsKnown, IsPassed, IsSearch, IsSeat, IsSound, Keeps, times_listed, shares, stands_at_end, filled}
+use Rattle.spd_cons_core.specs.Invariants.{IsSized, IsClaimed, IsKnown, IsPassed, IsSearch, IsSeat, IsSoundMachine, Keeps, times_listed, shares, stands_at_end, filled}
 use Rattle.spd_cons_core.proofs.Writes.{total_set, total_same}
 use Rattle.spd_cons_core.proofs.Growth.{Grows, grow_claimed, grow_known}
 use Rattle.spd_cons_core.proofs.Knowledge.{learned_keeps, learned_known}
-use Rattle.spd_cons_core.proofs.Quiet.{keeps_same, none≢some, some_same, seats_changed, spares_changed, call_keeps}
+use Rattle.spd_cons_core.proofs.Quiet.{keeps_same, seats_changed, spares_changed, call_keeps}
 use Rattle.spd_cons_core.proofs.Fives.{five_of_key, five_of_entry, same_of_five}
 use Rattle.spd_cons_core.proofs.Starts.{passed_order}
 use Rattle.spd_cons_core.proofs.LoadsContent.{learns}
@@ -82,14 +83,14 @@ won c i call spare w may within =
     }
 
 -- the words of the spare are the key's
-spelled : (c : Machine) (i : ℕ) (call : Call) (spare : Entry) → IsSized c → IsSound c → IsPublishing c i call spare → entry_words c spare.0 ≡ words_of call.key
+spelled : (c : Machine) (i : ℕ) (call : Call) (spare : Entry) → IsSized c → IsSoundMachine c → IsPublishing c i call spare → entry_words c spare.0 ≡ words_of call.key
 spelled c i call spare sized sound may =
     let was = sound.seats i may.live in
     same_of_five (entry_words c spare.0) (words_of call.key) (five_of_entry c sized spare.0 (was.spare spare may.has_spare).claimed) (five_of_key call.key)
     (subst (λ n. take n (entry_words c spare.0) ≡ take n (words_of call.key)) may.whole ((was.search call may.in_call).stored spare may.has_spare))
 
 -- no filled bucket names an entry of this key: a search passes it before the empty bucket, or it would have passed the empty bucket
-no_twin : (c : Machine) (i : ℕ) (call : Call) (spare : Entry) → IsSound c → IsPublishing c i call spare → (b e : ℕ) → Names c b e → entry_words c e ≡ words_of call.key → ⊥
+no_twin : (c : Machine) (i : ℕ) (call : Call) (spare : Entry) → IsSoundMachine c → IsPublishing c i call spare → (b e : ℕ) → Names c b e → entry_words c e ≡ words_of call.key → ⊥
 no_twin c i call spare sound may b e names same =
     let search = (sound.seats i may.live).search call may.in_call in
     let empty = may.empty in
@@ -98,9 +99,9 @@ no_twin c i call spare sound may b e names same =
     let n = other.names in let which : other.entry ≡ e = omega arith in other.differs (ap (entry_words c) which ∙ same))
     (λ rest. ⊎_elim
     (λ (here : b ≡ call.at). let n : 0 ≡ e + 1 = sym empty ∙ (ap (bucket c) (sym here) ∙ names) in absurd (omega arith))
-    (λ behind. sound.filled_from_start b e call.at names search.at_bucket (subst (λ l. IsPassed (start_of l (bucket_count c)) b call.at) (sym same) behind) empty)
+    (λ behind. sound.filled_from_start b e call.at names search.at_bucket (subst (λ l. IsPassed (first_bucket l (bucket_count c)) b call.at) (sym same) behind) empty)
     rest)
-    (passed_order (start_of (words_of call.key) (bucket_count c)) call.at b)
+    (passed_order (first_bucket (words_of call.key) (bucket_count c)) call.at b)
 
 -- one more bucket is filled
 filled_set : (l : List ℕ) (at e : ℕ) → at < length l → get_or l at 0 ≡ 0 → count_by (λ b. ltb 0 b) (set l at (e + 1)) ≡ count_by (λ b. ltb 0 b) l + 1
@@ -118,7 +119,7 @@ times_more : (e : ℕ) (l : List Entry) (spare : Entry) (z : Bool) → eqb spare
 times_more e l spare z is = sum_by_push (λ (p : Entry). cond (eqb p.0 e) 1 0) l spare ∙ ap (λ (b : Bool). count_by (λ p. eqb p.0 e) l + cond b 1 0) is
 
 -- the winner
-won_seat : (c d : Machine) (i : ℕ) (call : Call) (spare : Entry) → IsSized c → IsSound c → IsPublishing c i call spare → Won c d call.at spare → d.entries ≡ c.entries → d.claims ≡ c.claims → IsSeat d (winner (seat_at c i) call spare)
+won_seat : (c d : Machine) (i : ℕ) (call : Call) (spare : Entry) → IsSized c → IsSoundMachine c → IsPublishing c i call spare → Won c d call.at spare → d.entries ≡ c.entries → d.claims ≡ c.claims → IsSeat d (winner (seat_at c i) call spare)
 won_seat c d i call spare sized sound may has entries claims =
     let seat : Seat = seat_at c i in
     let was = sound.seats i may.live in
@@ -141,8 +142,8 @@ won_seat c d i call spare sized sound may has entries claims =
           (λ (old : Contains seat.published e). learned_keeps seat.knows k e (was.own_known e old))
           (λ (same : spare ≡ e). subst (λ (x : Entry). is_known (learned seat.knows k) x ≡ true) same (learned_known seat.knows k))
           (Contains-push_cases seat.published spare e at);
-      spare = λ e is. absurd (none≢some e is);
-      search = λ call' is. absurd (none≢some call' is);
+      spare = λ e is. absurd (none-some e is);
+      search = λ call' is. absurd (none-some call' is);
       stands = was.stands;
       unpublished = omega arith;
       less_without_spare = λ _. omega arith;
@@ -150,7 +151,7 @@ won_seat c d i call spare sized sound may has entries claims =
       end_met = λ ended. let met = was.end_met ended in omega arith;
     }
 
-wins : (c : Machine) (i : ℕ) (call : Call) (spare : Entry) → IsSized c → IsSound c → IsPublishing c i call spare → Keeps c (with_bucket c i call.at spare (winner (seat_at c i) call spare))
+wins : (c : Machine) (i : ℕ) (call : Call) (spare : Entry) → IsSized c → IsSoundMachine c → IsPublishing c i call spare → Keeps c (with_bucket c i call.at spare (winner (seat_at c i) call spare))
 wins c i call spare sized sound may =
     let seat : Seat = seat_at c i in
     let w : Seat = winner seat call spare in
@@ -214,7 +215,7 @@ wins c i call spare sized sound may =
             let none = sound.listed_never e (λ b names. never b (g.names b e names)) in
             let same = times_more e seat.published spare false (ne_eqb spare.0 e (λ x. never call.at (has.here ∙ ap (λ n. n + 1) x))) in
             let sum = listed e in omega arith;
-        filled_from_start = λ b e k names within passed zero. filled_before c d i call spare sized sound may has refl b e k names (subst (λ n. k < n) g.count within) (subst (λ n. IsPassed (start_of (entry_words c e) n) b k) g.count passed) zero;
+        filled_from_start = λ b e k names within passed zero. filled_before c d i call spare sized sound may has refl b e k names (subst (λ n. k < n) g.count within) (subst (λ n. IsPassed (first_bucket (entry_words c e) n) b k) g.count passed) zero;
         distinct_keys = λ a b e h names names' same. ⊎_elim
             (λ (t : (a ≡ call.at) × (e ≡ spare.0)). ⊎_elim
             (λ (t' : (b ≡ call.at) × (h ≡ spare.0)). t.0 ∙ sym t'.0)
@@ -233,7 +234,7 @@ wins c i call spare sized sound may =
                   (λ (t : (b ≢ call.at) × Names c b e.0). ((sound.seats j there).spare e its).unpublished b t.1)
                   (has.cases b e.0 names);
             });
-        own_spare = spares_changed c sound i w live (λ e is. absurd (none≢some e is));
+        own_spare = spares_changed c sound i w live (λ e is. absurd (none-some e is));
         all_counted = omega arith;
         all_listed = omega arith;
         all_seats = sums ∙ sound.all_seats;
@@ -248,15 +249,15 @@ wins c i call spare sized sound may =
       };
     }
   where
-    filled_before : (c d : Machine) (i : ℕ) (call : Call) (spare : Entry) → IsSized c → IsSound c → IsPublishing c i call spare → Won c d call.at spare → d.entries ≡ c.entries
-        → (b e k : ℕ) → Names d b e → k < bucket_count c → IsPassed (start_of (entry_words c e) (bucket_count c)) b k → bucket d k ≡ 0 → ⊥
+    filled_before : (c d : Machine) (i : ℕ) (call : Call) (spare : Entry) → IsSized c → IsSoundMachine c → IsPublishing c i call spare → Won c d call.at spare → d.entries ≡ c.entries
+        → (b e k : ℕ) → Names d b e → k < bucket_count c → IsPassed (first_bucket (entry_words c e) (bucket_count c)) b k → bucket d k ≡ 0 → ⊥
     filled_before c d i call spare sized sound may has entries b e k names within passed zero = ⊎_elim
         (λ (here : k ≡ call.at). let n : spare.0 + 1 ≡ 0 = sym has.here ∙ (ap (bucket d) (sym here) ∙ zero) in absurd (omega arith))
         (λ (other : k ≡ call.at → ⊥). let none : bucket c k ≡ 0 = sym (has.others k other) ∙ zero in ⊎_elim
         (λ (t : (b ≡ call.at) × (e ≡ spare.0)).
         let search = (sound.seats i may.live).search call may.in_call in
         let words : entry_words c e ≡ words_of call.key = ap (entry_words c) t.1 ∙ spelled c i call spare sized sound may in
-        let o = search.passed k within (subst (λ n. IsPassed (start_of (words_of call.key) (bucket_count c)) n k) t.0 (subst (λ l. IsPassed (start_of l (bucket_count c)) b k) words passed)) in
+        let o = search.passed k within (subst (λ n. IsPassed (first_bucket (words_of call.key) (bucket_count c)) n k) t.0 (subst (λ l. IsPassed (first_bucket l (bucket_count c)) b k) words passed)) in
         let n = o.names in absurd (omega arith))
         (λ (t : (b ≢ call.at) × Names c b e). sound.filled_from_start b e k t.1 within passed none)
         (has.cases b e names))
@@ -270,9 +271,9 @@ lost_search c seat call was full o is = record {
   parts = was.parts;
   at_bucket = was.at_bucket;
   passed = was.passed;
-  found = λ e its. let same : bucket c call.at - 1 ≡ e.0 = ap (λ (x : Entry). x.0) (some_same (entry (bucket c call.at - 1)) e its) in
+  found = λ e its. let same : bucket c call.at - 1 ≡ e.0 = ap (λ (x : Entry). x.0) (same_Some (entry (bucket c call.at - 1)) e its) in
       let names : Names c call.at e.0 = omega arith in (names, right o is e names);
-  none_right = λ its. absurd (none≢some (entry (bucket c call.at - 1)) (sym its));
+  none_right = λ its. absurd (none-some (entry (bucket c call.at - 1)) (sym its));
   stored = was.stored;
   none_stored = was.none_stored;
 }
@@ -282,7 +283,7 @@ lost_search c seat call was full o is = record {
     right (Some x) is e names = let f = was.found x is in let n = f.0 in let same : x.0 ≡ e.0 = omega arith in
         subst (λ n. take call.right (entry_words c n) ≡ take call.right (words_of call.key)) same f.1
 
-exchanges : (c : Machine) (i : ℕ) (call : Call) (spare : Entry) → IsSized c → IsSound c → (seat_at c i).live ≡ true → (seat_at c i).call ≡ Some call → (seat_at c i).spare ≡ Some spare → call.stored ≡ 5 → (z : Bool) → eqb (bucket c call.at) 0 ≡ z
+exchanges : (c : Machine) (i : ℕ) (call : Call) (spare : Entry) → IsSized c → IsSoundMachine c → (seat_at c i).live ≡ true → (seat_at c i).call ≡ Some call → (seat_at c i).spare ≡ Some spare → call.stored ≡ 5 → (z : Bool) → eqb (bucket c call.at) 0 ≡ z
     → Keeps c (record c { buckets = set c.buckets call.at (cond z (spare.0 + 1) (bucket c call.at)); seats = set c.seats i (cond z (winner (seat_at c i) call spare) (record (seat_at c i) { call = Some (record call { found = Some (entry (bucket c call.at - 1)); empty = false }) })) })
 exchanges c i call spare sized sound live is has whole true test =
     wins c i call spare sized sound record { live = live; in_call = is; has_spare = has; whole = whole; empty = eqb-true (bucket c call.at) 0 test }
@@ -292,7 +293,7 @@ exchanges c i call spare sized sound live is has whole false test =
     (call_keeps c i (record call { found = Some (entry (bucket c call.at - 1)); empty = false }) sized sound live
     (lost_search c (seat_at c i) call ((sound.seats i live).search call is) (eqb-false (bucket c call.at) 0 test) call.found refl))
 
-in_exchange : (c : Machine) (i : ℕ) → IsSized c → IsSound c → (o : Option Call) (s : Option Entry) → (seat_at c i).call ≡ o → (seat_at c i).spare ≡ s → Keeps c (exchange_in c i o s)
+in_exchange : (c : Machine) (i : ℕ) → IsSized c → IsSoundMachine c → (o : Option Call) (s : Option Entry) → (seat_at c i).call ≡ o → (seat_at c i).spare ≡ s → Keeps c (exchange_in c i o s)
 in_exchange c i sized sound None s is has = keeps_same c sized sound
 in_exchange c i sized sound (Some call) None is has = keeps_same c sized sound
 in_exchange c i sized sound (Some call) (Some spare) is has =
@@ -302,5 +303,5 @@ in_exchange c i sized sound (Some call) (Some spare) is has =
     (λ _. keeps_same c sized sound)
 
 -- an exchange keeps the invariant
-pub exchange_bucket_keeps : (c : Machine) (i : ℕ) → IsSized c → IsSound c → Keeps c (exchange_bucket c i)
+pub exchange_bucket_keeps : (c : Machine) (i : ℕ) → IsSized c → IsSoundMachine c → Keeps c (exchange_bucket c i)
 exchange_bucket_keeps c i sized sound = in_exchange c i sized sound (seat_at c i).call (seat_at c i).spare refl refl

@@ -6,7 +6,7 @@ use Rattle.spd_cons_core.specs.declared.key.Key.{Key}
 use Rattle.spd_cons_core.specs.declared.mind.Known.{Known}
 use Rattle.spd_cons_core.specs.declared.mind.Call.{Call}
 use Rattle.spd_cons_core.specs.Views.{Seat, Machine}
-use Rattle.spd_cons_core.specs.Spelling.{words_of, start_of}
+use Rattle.spd_cons_core.specs.Spelling.{words_of, first_bucket}
 use Rattle.spd_cons_core.specs.Seats.{bucket, bucket_count, Names, entry_words, parts_known}
 use Rattle.spd_cons_core.specs.Invariants.{IsClaimed, IsKnown, IsPassed, IsOther, IsSearch, IsSeat}
 
@@ -58,10 +58,10 @@ grow_other c d g key b was = record {
 }
 
 pub grow_passed : (c d : Machine) → Grows c d → (key : Key) (at : ℕ)
-    → ((b : ℕ) → b < bucket_count c → IsPassed (start_of (words_of key) (bucket_count c)) at b → IsOther c key b)
-    → (b : ℕ) → b < bucket_count d → IsPassed (start_of (words_of key) (bucket_count d)) at b → IsOther d key b
+    → ((b : ℕ) → b < bucket_count c → IsPassed (first_bucket (words_of key) (bucket_count c)) at b → IsOther c key b)
+    → (b : ℕ) → b < bucket_count d → IsPassed (first_bucket (words_of key) (bucket_count d)) at b → IsOther d key b
 grow_passed c d g key at was =
-    subst (λ (n : ℕ). (b : ℕ) → b < n → IsPassed (start_of (words_of key) n) at b → IsOther d key b) (sym g.count)
+    subst (λ (n : ℕ). (b : ℕ) → b < n → IsPassed (first_bucket (words_of key) n) at b → IsOther d key b) (sym g.count)
     (λ b within passed. grow_other c d g key b (was b within passed))
 
 -- the search of a seat that knows what it knew, with another spare

@@ -5,17 +5,18 @@ use Rattle.std.proofs.lemmas.Bool.{true≢false, and_parts, cond_both, or_cases,
 use Rattle.std.proofs.lemmas.List.{get_or-set_other, length-append}
 use Rattle.std.proofs.lemmas.List.Elements.{Contains-append_cases}
 use Rattle.std.proofs.lemmas.List.Sums.{sum_by-set, sum_by-append}
+use Rattle.std.proofs.lemmas.Option.{none-some}
 use Rattle.spd_cons_core.specs.declared.key.Entry.{Entry}
 use Rattle.spd_cons_core.specs.declared.mind.Known.{Known}
 use Rattle.spd_cons_core.specs.declared.mind.Call.{Call}
 use Rattle.spd_cons_core.specs.Views.{Seat, Machine}
 use Rattle.spd_cons_core.specs.Seats.{spent, seat_at, learned}
 use Rattle.spd_cons_core.specs.Events.{can_join, either_spare, after_join, join}
-use Rattle.spd_cons_core.specs.Invariants.{IsSized, IsKnown, IsSeat, IsSound, Keeps, total, times_listed, shares, stands_at_end}
+use Rattle.spd_cons_core.specs.Invariants.{IsSized, IsKnown, IsSeat, IsSoundMachine, Keeps, total_over_seats, times_listed, shares, stands_at_end}
 use Rattle.spd_cons_core.proofs.Writes.{set_cases, live_within, total_set, share_of, share_live}
 use Rattle.spd_cons_core.proofs.Growth.{Grows, grow_claimed, grow_known, grow_seat}
 use Rattle.spd_cons_core.proofs.Knowledge.{joined_keeps, joined_known, joined_cases, parts_more}
-use Rattle.spd_cons_core.proofs.Quiet.{keeps_same, none≢some}
+use Rattle.spd_cons_core.proofs.Quiet.{keeps_same}
 use Rattle.spd_cons_core.proofs.Splits.{grows_seats, leaves_seats}
 
 -- two different live seats in no call
@@ -47,7 +48,7 @@ spare_cases (Some x) b e is = inl is
 spare_cases None b e is = inr is
 
 spare_none : (a b : Option Entry) → either_spare a b ≡ None → (a ≡ None)
-spare_none (Some x) b is = absurd (none≢some x (sym is))
+spare_none (Some x) b is = absurd (none-some x (sym is))
 spare_none None b is = refl
 
 -- a joined seat knows what both knew
@@ -67,7 +68,7 @@ knows_both c d g seat other was was' k at = ⊎_elim
     })
     (joined_cases other.knows seat.knows k at)
 
-joined_seat : (c : Machine) (i j : ℕ) (l : List Seat) → IsSound c → IsJoining c i j → IsSeat (record c { seats = l }) (after_join (seat_at c i) (seat_at c j))
+joined_seat : (c : Machine) (i j : ℕ) (l : List Seat) → IsSoundMachine c → IsJoining c i j → IsSeat (record c { seats = l }) (after_join (seat_at c i) (seat_at c j))
 joined_seat c i j l sound may =
     let seat : Seat = seat_at c i in
     let other : Seat = seat_at c j in
@@ -88,7 +89,7 @@ joined_seat c i j l sound may =
           (λ (mine : seat.spare ≡ Some e). let s = was.spare e mine in let n = s.counted in record { claimed = grow_claimed c d g e.0 s.claimed; unpublished = s.unpublished; counted = omega arith })
           (λ (its : other.spare ≡ Some e). let s = was'.spare e its in let n = s.counted in record { claimed = grow_claimed c d g e.0 s.claimed; unpublished = s.unpublished; counted = omega arith })
           (spare_cases seat.spare other.spare e is);
-      search = λ call is. absurd (none≢some call (sym may.no_call ∙ is));
+      search = λ call is. absurd (none-some call (sym may.no_call ∙ is));
       stands = omega arith;
       unpublished = omega arith;
       less_without_spare = λ none. let less = was.less_without_spare (spare_none seat.spare other.spare none) in omega arith;
@@ -101,7 +102,7 @@ joined_seat c i j l sound may =
 
 -- a sum over the live seats after the join
 total_join : (f : Seat → ℕ) (c : Machine) (i j : ℕ) (w : Seat) → IsJoining c i j → w.live ≡ true
-    → sum_by (share_of f) (set (set c.seats i w) j spent) + (f (seat_at c i) + f (seat_at c j)) ≡ total f c + f w
+    → sum_by (share_of f) (set (set c.seats i w) j spent) + (f (seat_at c i) + f (seat_at c j)) ≡ total_over_seats f c + f w
 total_join f c i j w may live =
     let there : get_or (set c.seats i w) j spent ≡ seat_at c j = get_or-set_other c.seats i j w spent may.apart in
     let there_live : (get_or (set c.seats i w) j spent).live ≡ true = ap (λ (s : Seat). s.live) there ∙ may.there in
@@ -111,7 +112,7 @@ total_join f c i j w may live =
     omega arith
 
 total_joined : (f : Seat → ℕ) (c : Machine) (i j : ℕ) (w : Seat) → IsJoining c i j → w.live ≡ true → f w ≡ f (seat_at c i) + f (seat_at c j)
-    → sum_by (share_of f) (set (set c.seats i w) j spent) ≡ total f c
+    → sum_by (share_of f) (set (set c.seats i w) j spent) ≡ total_over_seats f c
 total_joined f c i j w may live both = let e = total_join f c i j w may live in omega arith
 
 more_ends : (a b : Bool) (m n : ℕ) → cond a m 0 + cond b n 0 ≤ cond (a || b) (m + n) 0
@@ -144,7 +145,7 @@ holder c i j may h e =
     h not_j)
     h
 
-joins : (c : Machine) (i j : ℕ) → IsSized c → IsSound c → IsJoining c i j → Keeps c (record c { seats = set (set c.seats i (after_join (seat_at c i) (seat_at c j))) j spent })
+joins : (c : Machine) (i j : ℕ) → IsSized c → IsSoundMachine c → IsJoining c i j → Keeps c (record c { seats = set (set c.seats i (after_join (seat_at c i) (seat_at c j))) j spent })
 joins c i j sized sound may =
     let seat : Seat = seat_at c i in
     let other : Seat = seat_at c j in
@@ -200,7 +201,7 @@ joins c i j sized sound may =
     }
 
 -- a join keeps the invariant
-pub join_keeps : (c : Machine) (i j : ℕ) → IsSized c → IsSound c → Keeps c (join c i j)
+pub join_keeps : (c : Machine) (i j : ℕ) → IsSized c → IsSoundMachine c → Keeps c (join c i j)
 join_keeps c i j sized sound =
     cond_both (can_join i j (seat_at c i) (seat_at c j)) _ c (Keeps c)
     (λ can. joins c i j sized sound (joining c i j can))

@@ -2,16 +2,17 @@
 use Rattle.std.proofs.Common.{◌≡◌, ◌≢◌, ℕ, ◌-◌, ◌<◌, Bool, true, not, ◌&&◌, eqb, take, Option, Some, None, is_none, unwrap_or, refl, sym, ap, ◌∙◌, arith}
 use Rattle.std.specs.Option.{option_map_or}
 use Rattle.std.proofs.lemmas.Bool.{true≢false, and_parts, cond_both, eqb-false}
+use Rattle.std.proofs.lemmas.Option.{none-some, same_Some}
 use Rattle.spd_cons_core.specs.declared.key.Entry.{Entry}
 use Rattle.spd_cons_core.specs.declared.key.Key.{Key}
 use Rattle.spd_cons_core.specs.declared.mind.Call.{Call}
 use Rattle.spd_cons_core.specs.declared.mind.Last.TheVariants.{Full}
 use Rattle.spd_cons_core.specs.Views.{Seat, Machine}
-use Rattle.spd_cons_core.specs.Spelling.{IsKey, words_of, start_of}
+use Rattle.spd_cons_core.specs.Spelling.{IsKey, words_of, first_bucket}
 use Rattle.spd_cons_core.specs.Seats.{seat_at, with_seat, bucket, bucket_count, entry, entry_words, same_key, parts_known}
 use Rattle.spd_cons_core.specs.Events.{new_call, call_for, can_load_bucket, after_bucket, load_bucket}
-use Rattle.spd_cons_core.specs.Invariants.{IsSized, IsSearch, IsSound, Keeps}
-use Rattle.spd_cons_core.proofs.Quiet.{keeps_same, none≢some, some_same, call_keeps, end_keeps}
+use Rattle.spd_cons_core.specs.Invariants.{IsSized, IsSearch, IsSoundMachine, Keeps}
+use Rattle.spd_cons_core.proofs.Quiet.{keeps_same, call_keeps, end_keeps}
 use Rattle.spd_cons_core.proofs.Starts.{start_below, start_passes_none}
 
 -- there are buckets
@@ -24,8 +25,8 @@ new_search c seat key sized fits known = record {
   in_range = fits;
   parts = known;
   at_bucket = start_below (words_of key) (bucket_count c) (some_buckets c sized);
-  passed = λ b within passed. absurd (start_passes_none (start_of (words_of key) (bucket_count c)) b passed);
-  found = λ e is. absurd (none≢some e is);
+  passed = λ b within passed. absurd (start_passes_none (first_bucket (words_of key) (bucket_count c)) b passed);
+  found = λ e is. absurd (none-some e is);
   none_right = λ _. refl;
   stored = λ e is. refl;
   none_stored = λ _. refl;
@@ -52,9 +53,9 @@ found_entry c seat call empty was none full = record {
   parts = was.parts;
   at_bucket = was.at_bucket;
   passed = was.passed;
-  found = λ e is. let same : bucket c call.at - 1 ≡ e.0 = ap (λ (x : Entry). x.0) (some_same (entry (bucket c call.at - 1)) e is) in
+  found = λ e is. let same : bucket c call.at - 1 ≡ e.0 = ap (λ (x : Entry). x.0) (same_Some (entry (bucket c call.at - 1)) e is) in
       (omega arith, ap (λ n. take n (entry_words c e.0)) none ∙ ap (λ n. take n (words_of call.key)) (sym none));
-  none_right = λ is. absurd (none≢some (entry (bucket c call.at - 1)) (sym is));
+  none_right = λ is. absurd (none-some (entry (bucket c call.at - 1)) (sym is));
   stored = was.stored;
   none_stored = was.none_stored;
 }
@@ -78,7 +79,7 @@ ready c seat key sized fits was can = by_call seat.call refl (and_parts seat.liv
         let free = (and_parts (same_key call.key key) _ looks).1 in
         record { search = was call is; none_found = none_is call.found (and_parts (is_none call.found) (not call.empty) free).0 }
 
-loaded : (c : Machine) (i : ℕ) (call : Call) → IsSized c → IsSound c → (seat_at c i).live ≡ true → IsReady c (seat_at c i) call → Keeps c (with_seat c i (after_bucket call (bucket c call.at) (seat_at c i)))
+loaded : (c : Machine) (i : ℕ) (call : Call) → IsSized c → IsSoundMachine c → (seat_at c i).live ≡ true → IsReady c (seat_at c i) call → Keeps c (with_seat c i (after_bucket call (bucket c call.at) (seat_at c i)))
 loaded c i call sized sound live ready =
     cond_both (eqb (bucket c call.at) 0) _ _ (λ (w : Seat). Keeps c (with_seat c i w))
     (λ _. cond_both (is_none (seat_at c i).spare && (seat_at c i).ended) _ _ (λ (w : Seat). Keeps c (with_seat c i w))
@@ -88,7 +89,7 @@ loaded c i call sized sound live ready =
     (found_entry c (seat_at c i) call call.empty ready.search (ready.search.none_right ready.none_found) (eqb-false (bucket c call.at) 0 full)))
 
 -- a bucket that is loaded keeps the invariant, where the key of a load that is taken is in range
-pub taken_load_keeps : (c : Machine) (i : ℕ) (key : Key) → IsSized c → IsSound c → (can_load_bucket key (seat_at c i) ≡ true → IsKey key) → Keeps c (load_bucket c i key)
+pub taken_load_keeps : (c : Machine) (i : ℕ) (key : Key) → IsSized c → IsSoundMachine c → (can_load_bucket key (seat_at c i) ≡ true → IsKey key) → Keeps c (load_bucket c i key)
 taken_load_keeps c i key sized sound fits =
     cond_both (can_load_bucket key (seat_at c i)) _ c (Keeps c)
     (λ can. let live = (and_parts (seat_at c i).live _ can).0 in
@@ -96,5 +97,5 @@ taken_load_keeps c i key sized sound fits =
     (λ _. keeps_same c sized sound)
 
 -- a bucket that is loaded keeps the invariant
-pub load_bucket_keeps : (c : Machine) (i : ℕ) (key : Key) → IsSized c → IsSound c → IsKey key → Keeps c (load_bucket c i key)
+pub load_bucket_keeps : (c : Machine) (i : ℕ) (key : Key) → IsSized c → IsSoundMachine c → IsKey key → Keeps c (load_bucket c i key)
 load_bucket_keeps c i key sized sound fits = taken_load_keeps c i key sized sound (λ _. fits)

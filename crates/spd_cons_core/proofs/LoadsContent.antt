@@ -4,16 +4,17 @@ use Rattle.std.specs.List.{Contains}
 use Rattle.std.specs.Option.{option_map_or}
 use Rattle.std.proofs.lemmas.Bool.{true≢false, and_parts, cond_both, eqb-true, eqb-false, ltb-true}
 use Rattle.std.proofs.lemmas.List.{take_more_same}
+use Rattle.std.proofs.lemmas.Option.{none-some, same_Some}
 use Rattle.spd_cons_core.specs.declared.key.Entry.{Entry}
 use Rattle.spd_cons_core.specs.declared.mind.Known.{Known}
 use Rattle.spd_cons_core.specs.declared.mind.Call.{Call}
 use Rattle.spd_cons_core.specs.declared.mind.Last.TheVariants.{Got}
 use Rattle.spd_cons_core.specs.Views.{Seat, Machine}
-use Rattle.spd_cons_core.specs.Spelling.{words_of, start_of}
+use Rattle.spd_cons_core.specs.Spelling.{words_of, first_bucket}
 use Rattle.spd_cons_core.specs.Seats.{seat_at, with_seat, bucket, bucket_count, entry, entry_words, Names, parts_known, learned}
 use Rattle.spd_cons_core.specs.Events.{can_compare, next_bucket, after_content, compare_in, load_content}
-use Rattle.spd_cons_core.specs.Invariants.{IsSized, IsKnown, IsSearch, IsSound, Keeps}
-use Rattle.spd_cons_core.proofs.Quiet.{keeps_same, none≢some, some_same, call_keeps, quiet_keeps}
+use Rattle.spd_cons_core.specs.Invariants.{IsSized, IsKnown, IsSearch, IsSoundMachine, Keeps}
+use Rattle.spd_cons_core.proofs.Quiet.{keeps_same, call_keeps, quiet_keeps}
 use Rattle.spd_cons_core.proofs.Knowledge.{learned_cases, learned_keeps, parts_more}
 use Rattle.spd_cons_core.proofs.Fives.{five_of_key, five_of_entry, same_of_five}
 use Rattle.spd_cons_core.proofs.Starts.{passed_next}
@@ -55,7 +56,7 @@ has_found c seat call e word search can =
     by_found (Some x) is test = is ∙ ap (λ (n : ℕ). Some (entry n)) (eqb-true x.0 e.0 test)
 
 -- one more word is right
-more_right : (c : Machine) (seat : Seat) (call : Call) (e : Entry) (word : ℕ) → IsSized c → IsSound c → IsSearch c seat call → IsFound c call e word → get_or (entry_words c e.0) word 0 ≡ get_or (words_of call.key) call.right 0
+more_right : (c : Machine) (seat : Seat) (call : Call) (e : Entry) (word : ℕ) → IsSized c → IsSoundMachine c → IsSearch c seat call → IsFound c call e word → get_or (entry_words c e.0) word 0 ≡ get_or (words_of call.key) call.right 0
     → take (call.right + 1) (entry_words c e.0) ≡ take (call.right + 1) (words_of call.key)
 more_right c seat call e word sized sound search found same =
     let five = five_of_entry c sized e.0 (sound.only_claimed call.at e.0 found.names) in
@@ -71,8 +72,8 @@ righted c seat call e was is right = record {
   parts = was.parts;
   at_bucket = was.at_bucket;
   passed = was.passed;
-  found = λ x is'. ((was.found x is').0, subst (λ (y : Entry). take (call.right + 1) (entry_words c y.0) ≡ take (call.right + 1) (words_of call.key)) (some_same e x (sym is ∙ is')) right);
-  none_right = λ none. absurd (none≢some e (sym none ∙ is));
+  found = λ x is'. ((was.found x is').0, subst (λ (y : Entry). take (call.right + 1) (entry_words c y.0) ≡ take (call.right + 1) (words_of call.key)) (same_Some e x (sym is ∙ is')) right);
+  none_right = λ none. absurd (none-some e (sym none ∙ is));
   stored = was.stored;
   none_stored = was.none_stored;
 }
@@ -87,15 +88,15 @@ moved_on c seat call e was names differs = record {
   passed = λ b within passed. ⊎_elim
       (λ before. was.passed b within before)
       (λ (here : b ≡ call.at). record { entry = e.0; names = ap (bucket c) here ∙ names; differs = differs })
-      (passed_next (bucket_count c) (start_of (words_of call.key) (bucket_count c)) call.at b within passed);
-  found = λ x is. absurd (none≢some x is);
+      (passed_next (bucket_count c) (first_bucket (words_of call.key) (bucket_count c)) call.at b within passed);
+  found = λ x is. absurd (none-some x is);
   none_right = λ _. refl;
   stored = was.stored;
   none_stored = was.none_stored;
 }
 
 -- the entry that was found is known, with its key
-found_known : (c : Machine) (seat : Seat) (call : Call) (e : Entry) → IsSized c → IsSound c → IsSearch c seat call → Names c call.at e.0 → take 5 (entry_words c e.0) ≡ take 5 (words_of call.key)
+found_known : (c : Machine) (seat : Seat) (call : Call) (e : Entry) → IsSized c → IsSoundMachine c → IsSearch c seat call → Names c call.at e.0 → take 5 (entry_words c e.0) ≡ take 5 (words_of call.key)
     → IsKnown c seat (record { entry = e; key = call.key })
 found_known c seat call e sized sound search names whole = record {
   published = (call.at, names);
@@ -104,7 +105,7 @@ found_known c seat call e sized sound search names whole = record {
   parts = search.parts;
 }
 
-got : (c : Machine) (i : ℕ) (call : Call) (e : Entry) → IsSized c → IsSound c → (seat_at c i).live ≡ true → IsKnown c (seat_at c i) (record { entry = e; key = call.key })
+got : (c : Machine) (i : ℕ) (call : Call) (e : Entry) → IsSized c → IsSoundMachine c → (seat_at c i).live ≡ true → IsKnown c (seat_at c i) (record { entry = e; key = call.key })
     → Keeps c (with_seat c i (record (seat_at c i) { knows = learned (seat_at c i).knows (record { entry = e; key = call.key }); call = None; last = Got e }))
 got c i call e sized sound live new =
     let was = sound.seats i live in
@@ -115,10 +116,10 @@ got c i call e sized sound live new =
     record {
       known = learns c (seat_at c i) k was.known new w refl;
       own_known = λ x listed. learned_keeps (seat_at c i).knows k x (was.own_known x listed);
-      search = λ call' is. absurd (none≢some call' is);
+      search = λ call' is. absurd (none-some call' is);
     }
 
-compared : (c : Machine) (i : ℕ) (call : Call) (e : Entry) (word : ℕ) → IsSized c → IsSound c → (seat_at c i).live ≡ true → (seat_at c i).call ≡ Some call → call.found ≡ Some e → IsFound c call e word
+compared : (c : Machine) (i : ℕ) (call : Call) (e : Entry) (word : ℕ) → IsSized c → IsSoundMachine c → (seat_at c i).live ≡ true → (seat_at c i).call ≡ Some call → call.found ≡ Some e → IsFound c call e word
     → Keeps c (with_seat c i (after_content (bucket_count c) e call (get_or (entry_words c e.0) word 0) (seat_at c i)))
 compared c i call e word sized sound live is is_found found =
     let search = (sound.seats i live).search call is in
@@ -131,7 +132,7 @@ compared c i call e word sized sound live is is_found found =
     (λ other. call_keeps c i (record call { at = next_bucket (bucket_count c) call.at; found = None; right = 0 }) sized sound live
     (moved_on c (seat_at c i) call e search found.names (λ same. eqb-false _ _ other (ap (λ l. get_or l word 0) same ∙ ap (λ n. get_or (words_of call.key) n 0) found.next))))
 
-content_in : (c : Machine) (i : ℕ) (e : Entry) (word : ℕ) → IsSized c → IsSound c → (o : Option Call) → (seat_at c i).call ≡ o → Keeps c (compare_in c i e word o)
+content_in : (c : Machine) (i : ℕ) (e : Entry) (word : ℕ) → IsSized c → IsSoundMachine c → (o : Option Call) → (seat_at c i).call ≡ o → Keeps c (compare_in c i e word o)
 content_in c i e word sized sound None is = keeps_same c sized sound
 content_in c i e word sized sound (Some call) is =
     cond_both (can_compare e word call (seat_at c i)) _ c (Keeps c)
@@ -145,5 +146,5 @@ content_in c i e word sized sound (Some call) is =
     is_found (Some x) is test = is ∙ ap (λ (n : ℕ). Some (entry n)) (eqb-true x.0 e.0 test)
 
 -- a word that is compared keeps the invariant
-pub load_content_keeps : (c : Machine) (i : ℕ) (e : Entry) (word : ℕ) → IsSized c → IsSound c → Keeps c (load_content c i e word)
+pub load_content_keeps : (c : Machine) (i : ℕ) (e : Entry) (word : ℕ) → IsSized c → IsSoundMachine c → Keeps c (load_content c i e word)
 load_content_keeps c i e word sized sound = content_in c i e word sized sound (seat_at c i).call refl

@@ -1,13 +1,14 @@
 -- An event that changes one seat's search and what it knows, and neither the table nor any count.
 use Rattle.std.proofs.Common.{◌≡◌, ◌≢◌, ℕ, ◌+◌, ◌≤◌, true, cond, List, length, get_or, set, Option, Some, None, refl, sym, ap, ◌∙◌, subst, arith}
 use Rattle.std.specs.List.{Contains}
+use Rattle.std.proofs.lemmas.Option.{none-some, same_Some}
 use Rattle.spd_cons_core.specs.declared.key.Entry.{Entry}
 use Rattle.spd_cons_core.specs.declared.mind.Known.{Known}
 use Rattle.spd_cons_core.specs.declared.mind.Call.{Call}
 use Rattle.spd_cons_core.specs.declared.mind.Last.{Last}
 use Rattle.spd_cons_core.specs.Views.{Seat, Machine}
 use Rattle.spd_cons_core.specs.Seats.{spent, seat_at, with_seat, is_known}
-use Rattle.spd_cons_core.specs.Invariants.{IsSized, IsKnown, IsSearch, IsSeat, IsSound, Stays, Keeps, total, times_listed, shares, stands_at_end, filled}
+use Rattle.spd_cons_core.specs.Invariants.{IsSized, IsKnown, IsSearch, IsSeat, IsSoundMachine, Stays, Keeps, total_over_seats, times_listed, shares, stands_at_end, filled}
 use Rattle.spd_cons_core.proofs.Writes.{set_cases, live_within, total_same}
 use Rattle.spd_cons_core.proofs.Growth.{Grows, LeavesSpare, grow_seat}
 
@@ -15,17 +16,11 @@ use Rattle.spd_cons_core.proofs.Growth.{Grows, LeavesSpare, grow_seat}
 pub stays_same : (c : Machine) → Stays c c
 stays_same c = record { limit = refl; most = refl; count = refl; buckets = λ b full. refl; words = λ b e names. refl }
 
-pub keeps_same : (c : Machine) → IsSized c → IsSound c → Keeps c c
+pub keeps_same : (c : Machine) → IsSized c → IsSoundMachine c → Keeps c c
 keeps_same c sized sound = record { sized = sized; sound = sound; stays = stays_same c }
 
-pub none≢some : {A : Type 0} (x : A) → None ≡ Some x → ⊥
-none≢some x e = cc
-
-pub some_same : {A : Type 0} (x y : A) → Some x ≡ Some y → x ≡ y
-some_same x y e = cc
-
 -- each seat, where one was replaced and the others keep their spares
-pub seats_changed : (c d : Machine) → Grows c d → IsSound c → (i : ℕ) (w : Seat) → (seat_at c i).live ≡ true → IsSeat d w
+pub seats_changed : (c d : Machine) → Grows c d → IsSoundMachine c → (i : ℕ) (w : Seat) → (seat_at c i).live ≡ true → IsSeat d w
     → ((j : ℕ) → j ≢ i → (seat_at c j).live ≡ true → LeavesSpare c d (seat_at c j))
     → (j : ℕ) → (get_or (set c.seats i w) j spent).live ≡ true → IsSeat d (get_or (set c.seats i w) j spent)
 seats_changed c d g sound i w live mine others =
@@ -33,7 +28,7 @@ seats_changed c d g sound i w live mine others =
     (λ j other there. grow_seat c d g (seat_at c j) (others j other there) (sound.seats j there))
 
 -- no two live seats have one spare, where the replaced seat has one that no other has
-pub spares_changed : (c : Machine) → IsSound c → (i : ℕ) (w : Seat) → (seat_at c i).live ≡ true
+pub spares_changed : (c : Machine) → IsSoundMachine c → (i : ℕ) (w : Seat) → (seat_at c i).live ≡ true
     → ((e : Entry) → w.spare ≡ Some e → (j : ℕ) → j ≢ i → (seat_at c j).live ≡ true → (seat_at c j).spare ≡ Some e → ⊥)
     → (j h : ℕ) (e : Entry) → (get_or (set c.seats i w) j spent).live ≡ true → (get_or (set c.seats i w) h spent).live ≡ true → (get_or (set c.seats i w) j spent).spare ≡ Some e → (get_or (set c.seats i w) h spent).spare ≡ Some e → j ≡ h
 spares_changed c sound i w live alone j h e =
@@ -47,7 +42,7 @@ spares_changed c sound i w live alone j h e =
     j
 
 -- a seat that keeps its spare
-pub spare_kept : (c : Machine) → IsSound c → (i : ℕ) (w : Seat) → (seat_at c i).live ≡ true → w.spare ≡ (seat_at c i).spare → (e : Entry) → w.spare ≡ Some e → (j : ℕ) → j ≢ i → (seat_at c j).live ≡ true → (seat_at c j).spare ≡ Some e → ⊥
+pub spare_kept : (c : Machine) → IsSoundMachine c → (i : ℕ) (w : Seat) → (seat_at c i).live ≡ true → w.spare ≡ (seat_at c i).spare → (e : Entry) → w.spare ≡ Some e → (j : ℕ) → j ≢ i → (seat_at c j).live ≡ true → (seat_at c j).spare ≡ Some e → ⊥
 spare_kept c sound i w live same e mine j other there its = other (sound.own_spare j i e there live its (sym same ∙ mine))
 
 -- the seat has the counts and the spare that it had
@@ -95,11 +90,11 @@ quiet_seat c old w was quiet informed =
       end_met = λ ended. was.end_met (sym quiet.ended ∙ ended);
     }
 
-pub quiet_keeps : (c : Machine) (i : ℕ) (w : Seat) → IsSized c → IsSound c → (seat_at c i).live ≡ true → IsQuiet (seat_at c i) w → IsInformed c w → Keeps c (with_seat c i w)
+pub quiet_keeps : (c : Machine) (i : ℕ) (w : Seat) → IsSized c → IsSoundMachine c → (seat_at c i).live ≡ true → IsQuiet (seat_at c i) w → IsInformed c w → Keeps c (with_seat c i w)
 quiet_keeps c i w sized sound live quiet informed =
     let mine : IsSeat c w = quiet_seat c (seat_at c i) w (sound.seats i live) quiet informed in
     let mine' : IsSeat (with_seat c i w) w = grow_seat c (with_seat c i w) (grows_same c i w) w (leaves_same c i w w mine) mine in
-    let listed : (e : ℕ) → total (times_listed e) (with_seat c i w) ≡ total (times_listed e) c = λ e. total_same (times_listed e) c.seats i w live quiet.live (ap (λ (p : List Entry). times_listed e (record spent { published = p })) quiet.published) in
+    let listed : (e : ℕ) → total_over_seats (times_listed e) (with_seat c i w) ≡ total_over_seats (times_listed e) c = λ e. total_same (times_listed e) c.seats i w live quiet.live (ap (λ (p : List Entry). times_listed e (record spent { published = p })) quiet.published) in
     let counted = total_same (λ s. s.unpublished) c.seats i w live quiet.live quiet.unpublished in
     let lists = total_same (λ s. length s.published) c.seats i w live quiet.live (ap length quiet.published) in
     let sums = total_same shares c.seats i w live quiet.live (λ x. quiet.stands x + quiet.splits x) in
@@ -132,7 +127,7 @@ quiet_keeps c i w sized sound live quiet informed =
     }
 
 -- the search that a seat is in after it was changed, and nothing else but how the last call ended
-pub search_keeps : (c : Machine) (i : ℕ) (o : Option Call) (last : Last) → IsSized c → IsSound c → (seat_at c i).live ≡ true
+pub search_keeps : (c : Machine) (i : ℕ) (o : Option Call) (last : Last) → IsSized c → IsSoundMachine c → (seat_at c i).live ≡ true
     → ((call : Call) → o ≡ Some call → IsSearch c (record (seat_at c i) { call = o; last = last }) call) → Keeps c (with_seat c i (record (seat_at c i) { call = o; last = last }))
 search_keeps c i o last sized sound live search =
     let was = sound.seats i live in
@@ -145,10 +140,10 @@ search_keeps c i o last sized sound live search =
     }
 
 -- a call that goes on
-pub call_keeps : (c : Machine) (i : ℕ) (new : Call) → IsSized c → IsSound c → (seat_at c i).live ≡ true → IsSearch c (seat_at c i) new → Keeps c (with_seat c i (record (seat_at c i) { call = Some new }))
+pub call_keeps : (c : Machine) (i : ℕ) (new : Call) → IsSized c → IsSoundMachine c → (seat_at c i).live ≡ true → IsSearch c (seat_at c i) new → Keeps c (with_seat c i (record (seat_at c i) { call = Some new }))
 call_keeps c i new sized sound live search =
     search_keeps c i (Some new) (seat_at c i).last sized sound live
-    (λ call is. subst (IsSearch c (record (seat_at c i) { call = Some new })) (some_same new call is) record {
+    (λ call is. subst (IsSearch c (record (seat_at c i) { call = Some new })) (same_Some new call is) record {
       in_range = search.in_range;
       parts = search.parts;
       at_bucket = search.at_bucket;
@@ -160,5 +155,5 @@ call_keeps c i new sized sound live search =
     })
 
 -- a call that ends
-pub end_keeps : (c : Machine) (i : ℕ) (last : Last) → IsSized c → IsSound c → (seat_at c i).live ≡ true → Keeps c (with_seat c i (record (seat_at c i) { call = None; last = last }))
-end_keeps c i last sized sound live = search_keeps c i None last sized sound live (λ call is. absurd (none≢some call is))
+pub end_keeps : (c : Machine) (i : ℕ) (last : Last) → IsSized c → IsSoundMachine c → (seat_at c i).live ≡ true → Keeps c (with_seat c i (record (seat_at c i) { call = None; last = last }))
+end_keeps c i last sized sound live = search_keeps c i None last sized sound live (λ call is. absurd (none-some call is))

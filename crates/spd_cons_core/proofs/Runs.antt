@@ -7,13 +7,14 @@ use Rattle.std.proofs.lemmas.List.{get_or-replicate, get_or_past, length-replica
 use Rattle.std.proofs.lemmas.List.Elements.{All-replicate}
 use Rattle.std.proofs.lemmas.List.Sums.{fold_more}
 use Rattle.std.proofs.lemmas.List.Folds.{sum_by-replicate}
+use Rattle.std.proofs.lemmas.Option.{none-some}
 use Rattle.spd_cons_core.specs.declared.event.Event.{Event}
 use Rattle.spd_cons_core.specs.declared.event.Event.TheVariants.{LoadBucket, Claim, StoreContent, ExchangeBucket, LoadContent, Split, Join}
 use Rattle.spd_cons_core.specs.Views.{Seat, Machine}
 use Rattle.spd_cons_core.specs.Seats.{spent, seat_at}
 use Rattle.spd_cons_core.specs.Events.{step, run, new_machine}
-use Rattle.spd_cons_core.specs.Invariants.{IsEvent, IsSized, IsSeat, IsSound, Stays, Keeps, filled}
-use Rattle.spd_cons_core.proofs.Quiet.{none≢some, keeps_same}
+use Rattle.spd_cons_core.specs.Invariants.{IsEvent, IsSized, IsSeat, IsSoundMachine, Stays, Keeps, filled}
+use Rattle.spd_cons_core.proofs.Quiet.{keeps_same}
 use Rattle.spd_cons_core.proofs.LoadsBucket.{load_bucket_keeps}
 use Rattle.spd_cons_core.proofs.LoadsContent.{load_content_keeps}
 use Rattle.spd_cons_core.proofs.Claims.{claim_keeps}
@@ -23,7 +24,7 @@ use Rattle.spd_cons_core.proofs.Splits.{nothing_contained, split_keeps}
 use Rattle.spd_cons_core.proofs.Joins.{join_keeps}
 
 -- each event keeps the invariant
-pub step_keeps : (c : Machine) (event : Event) → IsSized c → IsSound c → IsEvent event → Keeps c (step c event)
+pub step_keeps : (c : Machine) (event : Event) → IsSized c → IsSoundMachine c → IsEvent event → Keeps c (step c event)
 step_keeps c (LoadBucket i key) sized sound fits = load_bucket_keeps c i key sized sound fits
 step_keeps c (Claim i) sized sound fits = claim_keeps c i sized sound
 step_keeps c (StoreContent i word) sized sound fits = store_content_keeps c i word sized sound
@@ -70,7 +71,7 @@ new_sized limit most count a b c d is = record {
   five_words = All-replicate (λ words. length words ≡ 5) (limit + most) (replicate 5 0) (length-replicate {A = ℕ} 5 0);
 }
 
-pub new_sound : (limit most count : ℕ) → 1 ≤ most → IsSound (new_machine limit most count)
+pub new_sound : (limit most count : ℕ) → 1 ≤ most → IsSoundMachine (new_machine limit most count)
 new_sound limit most count some =
     let c : Machine = new_machine limit most count in
     let empty : filled c ≡ 0 = sum_by-replicate (λ b. cond (ltb 0 b) 1 0) count 0 ∙ omega arith in
@@ -85,8 +86,8 @@ new_sound limit most count some =
           (λ _. record {
             known = λ k at. absurd (nothing_contained k at);
             own_known = λ e at. absurd (nothing_contained e at);
-            spare = λ e is. absurd (none≢some e is);
-            search = λ call is. absurd (none≢some call is);
+            spare = λ e is. absurd (none-some e is);
+            search = λ call is. absurd (none-some call is);
             stands = omega arith;
             unpublished = omega arith;
             less_without_spare = λ _. omega arith;
@@ -95,7 +96,7 @@ new_sound limit most count some =
           })
           (λ i live. absurd (true≢false (sym live)));
       own_spare = λ i j e. first_seat (λ i s. s.live ≡ true → (seat_at c j).live ≡ true → s.spare ≡ Some e → (seat_at c j).spare ≡ Some e → i ≡ j) (record spent { live = true; stands = 1; splits = most - 1 })
-          (λ _ _ is _. absurd (none≢some e is)) (λ i _ _ is _. absurd (none≢some e is)) i;
+          (λ _ _ is _. absurd (none-some e is)) (λ i _ _ is _. absurd (none-some e is)) i;
       all_counted = omega arith;
       all_listed = sym empty;
       all_seats = omega arith;
@@ -107,7 +108,7 @@ pub run_more : (c now next : Machine) (events : List Event) (i : ℕ) (d : Event
 run_more c now next events i d within so_far is = is ∙ (ap (λ (m : Machine). step m (get_or events i d)) so_far ∙ sym (fold_more step c events i d within))
 
 -- a list of events keeps the invariant
-pub run_keeps : (events : List Event) (c : Machine) → IsSized c → IsSound c → AllByRecursion IsEvent events → Keeps c (run c events)
+pub run_keeps : (events : List Event) (c : Machine) → IsSized c → IsSoundMachine c → AllByRecursion IsEvent events → Keeps c (run c events)
 run_keeps [] c sized sound fit = keeps_same c sized sound
 run_keeps (event ∷ events) c sized sound fit =
     let one = step_keeps c event sized sound fit.0 in

@@ -4,13 +4,14 @@ use Rattle.std.specs.List.{Contains}
 use Rattle.std.proofs.lemmas.Bool.{true≢false, and_parts, cond_both, ltb-true, cases_order}
 use Rattle.std.proofs.lemmas.List.{get_or_append_left, get_or_push, get_or_past, length_push}
 use Rattle.std.proofs.lemmas.List.Sums.{sum_by_push}
+use Rattle.std.proofs.lemmas.Option.{none-some}
 use Rattle.spd_cons_core.specs.Views.{Seat, Machine}
 use Rattle.spd_cons_core.specs.Seats.{spent, seat_at}
 use Rattle.spd_cons_core.specs.Events.{can_split, after_split, split_off, split}
-use Rattle.spd_cons_core.specs.Invariants.{IsSized, IsSeat, IsSound, Keeps, times_listed, shares, stands_at_end}
+use Rattle.spd_cons_core.specs.Invariants.{IsSized, IsSeat, IsSoundMachine, Keeps, times_listed, shares, stands_at_end}
 use Rattle.spd_cons_core.proofs.Writes.{total_set, total_same, share_of}
 use Rattle.spd_cons_core.proofs.Growth.{Grows, LeavesSpare, known_moved, grow_claimed, search_moved}
-use Rattle.spd_cons_core.proofs.Quiet.{keeps_same, none≢some, seats_changed, spares_changed, spare_kept}
+use Rattle.spd_cons_core.proofs.Quiet.{keeps_same, seats_changed, spares_changed, spare_kept}
 
 -- a list with one more element, by cases on the place
 pub push_cases : {A : Type 0} (P : ℕ → A → Type 0) (l : List A) (y d : A) → ((j : ℕ) → P j (get_or l j d)) → P (length l) y → (j : ℕ) → P j (get_or (l ++ y ∷ []) j d)
@@ -33,7 +34,7 @@ leaves_seats c l seat was = record { words = λ e is. refl; unpublished = λ e i
 pub nothing_contained : {A : Type 0} (x : A) → Contains [] x → ⊥
 nothing_contained x at = omega (arith, at.1)
 
-splits : (c : Machine) (i : ℕ) → IsSized c → IsSound c → (seat_at c i).live ≡ true → 0 < (seat_at c i).splits
+splits : (c : Machine) (i : ℕ) → IsSized c → IsSoundMachine c → (seat_at c i).live ≡ true → 0 < (seat_at c i).splits
     → Keeps c (record c { seats = set c.seats i (after_split (seat_at c i)) ++ split_off (seat_at c i) ∷ [] })
 splits c i sized sound live some =
     let seat : Seat = seat_at c i in
@@ -58,8 +59,8 @@ splits c i sized sound live some =
     let other : IsSeat d v = record {
       known = known_moved c d g seat v refl was.known;
       own_known = λ e at. absurd (nothing_contained e at);
-      spare = λ e is. absurd (none≢some e is);
-      search = λ call is. absurd (none≢some call is);
+      spare = λ e is. absurd (none-some e is);
+      search = λ call is. absurd (none-some call is);
       stands = omega arith;
       unpublished = omega arith;
       less_without_spare = λ _. omega arith;
@@ -102,8 +103,8 @@ splits c i sized sound live some =
             (seats_changed c d g sound i w live mine (λ j _ there. leaves_seats c all (seat_at c j) (sound.seats j there))) (λ _. other);
         own_spare = λ j h e.
             push_cases (λ j s. s.live ≡ true → (get_or all h spent).live ≡ true → s.spare ≡ Some e → (get_or all h spent).spare ≡ Some e → j ≡ h) l v spent
-            (λ j here there its. push_cases (λ h s. s.live ≡ true → s.spare ≡ Some e → j ≡ h) l v spent (λ h there' its'. spares j h e here there' its its') (λ _ is. absurd (none≢some e is)) h there)
-            (λ _ _ is _. absurd (none≢some e is)) j;
+            (λ j here there its. push_cases (λ h s. s.live ≡ true → s.spare ≡ Some e → j ≡ h) l v spent (λ h there' its'. spares j h e here there' its its') (λ _ is. absurd (none-some e is)) h there)
+            (λ _ _ is _. absurd (none-some e is)) j;
         all_counted = omega arith;
         all_listed = omega arith;
         all_seats = omega arith;
@@ -113,7 +114,7 @@ splits c i sized sound live some =
     }
 
 -- a split keeps the invariant
-pub split_keeps : (c : Machine) (i : ℕ) → IsSized c → IsSound c → Keeps c (split c i)
+pub split_keeps : (c : Machine) (i : ℕ) → IsSized c → IsSoundMachine c → Keeps c (split c i)
 split_keeps c i sized sound =
     cond_both (can_split (seat_at c i)) _ c (Keeps c)
     (λ can. let all = and_parts (seat_at c i).live _ can in

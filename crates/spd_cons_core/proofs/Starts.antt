@@ -7,7 +7,7 @@ use Rattle.std.proofs.lemmas.Bool.{cases_lt, cases_eq, cases_order, cond_both, l
 use Rattle.std.proofs.Math.Nat.{div-lt_iff_lt-mul, mod-lt, mul_comm, mul-lt-mul_of_pos_right}
 use Rattle.std.proofs.Math.Nat.{mul-div-mul_right}
 use Rattle.std.proofs.lemmas.Nat.{pow-add, pow_pos}
-use Rattle.spd_cons_core.specs.Spelling.{mixed, hash_of, start_of}
+use Rattle.spd_cons_core.specs.Spelling.{mixed, hash_of, first_bucket}
 use Rattle.spd_cons_core.specs.Events.{next_bucket}
 use Rattle.spd_cons_core.specs.Invariants.{IsPassed}
 
@@ -24,13 +24,13 @@ below_scaled hash count wide positive some low =
     let product : hash * count < count * wide = subst (λ n. hash * count < n) (mul_comm wide count) (mul-lt-mul_of_pos_right low some) in
     (div-lt_iff_lt-mul positive).1 product
 
-pub start_below : (words : List ℕ) (count : ℕ) → 0 < count → start_of words count < count
-unfolding start_of
+pub start_below : (words : List ℕ) (count : ℕ) → 0 < count → first_bucket words count < count
+unfolding first_bucket
 start_below words count some = below_scaled (fold mixed 0 words) count (2 ^ 64) (lit< tt) some (hash_below words 0 (lit< tt))
 
 -- of 2 ^ bits buckets, the start bucket is the first bits of the hash
-pub start_shift : (words : List ℕ) (bits : ℕ) → bits ≤ 64 → hash_of words / 2 ^ (64 - bits) ≡ start_of words (2 ^ bits)
-unfolding start_of
+pub start_shift : (words : List ℕ) (bits : ℕ) → bits ≤ 64 → hash_of words / 2 ^ (64 - bits) ≡ first_bucket words (2 ^ bits)
+unfolding first_bucket
 start_shift words bits few =
     let all : 64 - bits + bits ≡ 64 = omega arith in
     let whole : 2 ^ (64 - bits) * 2 ^ bits ≡ 2 ^ 64 = sym (pow-add 2 (64 - bits) bits) ∙ ap (λ n. 2 ^ n) all in

@@ -3,16 +3,17 @@ use Rattle.std.proofs.Common.{◌≡◌, ◌≢◌, ℕ, ◌+◌, ◌<◌, true,
 use Rattle.std.proofs.lemmas.Bool.{and_parts, cond_both, eqb-true, ltb-true}
 use Rattle.std.proofs.lemmas.List.{get_or-set_same, get_or-set_other, length-set, take_more, take_more_set}
 use Rattle.std.proofs.lemmas.List.Elements.{All-set}
+use Rattle.std.proofs.lemmas.Option.{none-some, same_Some}
 use Rattle.spd_cons_core.specs.declared.key.Entry.{Entry}
 use Rattle.spd_cons_core.specs.declared.mind.Call.{Call}
 use Rattle.spd_cons_core.specs.Views.{Seat, Machine}
-use Rattle.spd_cons_core.specs.Spelling.{words_of, start_of}
+use Rattle.spd_cons_core.specs.Spelling.{words_of, first_bucket}
 use Rattle.spd_cons_core.specs.Seats.{seat_at, bucket_count, entry, entry_words}
 use Rattle.spd_cons_core.specs.Events.{can_store, store_in, store_content}
-use Rattle.spd_cons_core.specs.Invariants.{IsSized, IsPassed, IsSearch, IsSeat, IsSound, Keeps, times_listed, shares, stands_at_end}
+use Rattle.spd_cons_core.specs.Invariants.{IsSized, IsPassed, IsSearch, IsSeat, IsSoundMachine, Keeps, times_listed, shares, stands_at_end}
 use Rattle.spd_cons_core.proofs.Writes.{total_same}
 use Rattle.spd_cons_core.proofs.Growth.{Grows, LeavesSpare, known_moved, grow_claimed, grow_passed}
-use Rattle.spd_cons_core.proofs.Quiet.{keeps_same, none≢some, some_same, seats_changed, spares_changed, spare_kept}
+use Rattle.spd_cons_core.proofs.Quiet.{keeps_same, seats_changed, spares_changed, spare_kept}
 use Rattle.spd_cons_core.proofs.Fives.{five_of_key, five_of_entry, claimed_within}
 
 -- the seat's call with one more word stored
@@ -30,7 +31,7 @@ record IsStoring (c : Machine) (i : ℕ) (call : Call) (spare : Entry) (word : �
   next : word ≡ call.stored
   below : call.stored < 5
 
-grows : (c : Machine) (i : ℕ) (spare : Entry) (word value : ℕ) (w : Seat) → IsSound c → (seat_at c i).live ≡ true → (seat_at c i).spare ≡ Some spare → Grows c (with_word c i spare.0 word value w)
+grows : (c : Machine) (i : ℕ) (spare : Entry) (word value : ℕ) (w : Seat) → IsSoundMachine c → (seat_at c i).live ≡ true → (seat_at c i).spare ≡ Some spare → Grows c (with_word c i spare.0 word value w)
 grows c i spare word value w sound live is = record {
   limit = refl;
   most = refl;
@@ -41,7 +42,7 @@ grows c i spare word value w sound live is = record {
       (λ same. ((sound.seats i live).spare spare is).unpublished b (names ∙ ap (λ n. n + 1) same));
 }
 
-leaves : (c : Machine) (i : ℕ) (spare : Entry) (word value : ℕ) (w : Seat) → IsSound c → (seat_at c i).live ≡ true → (seat_at c i).spare ≡ Some spare
+leaves : (c : Machine) (i : ℕ) (spare : Entry) (word value : ℕ) (w : Seat) → IsSoundMachine c → (seat_at c i).live ≡ true → (seat_at c i).spare ≡ Some spare
     → (j : ℕ) → j ≢ i → (seat_at c j).live ≡ true → LeavesSpare c (with_word c i spare.0 word value w) (seat_at c j)
 leaves c i spare word value w sound live is j other there = record {
   words = λ e its. get_or-set_other c.entries spare.0 e.0 (set (entry_words c spare.0) word value) []
@@ -50,7 +51,7 @@ leaves c i spare word value w sound live is j other there = record {
 }
 
 -- the words of the spare after this one
-stored_more : (c : Machine) (i : ℕ) (call : Call) (spare : Entry) (word : ℕ) (w : Seat) → IsSized c → IsSound c → IsStoring c i call spare word
+stored_more : (c : Machine) (i : ℕ) (call : Call) (spare : Entry) (word : ℕ) (w : Seat) → IsSized c → IsSoundMachine c → IsStoring c i call spare word
     → take (call.stored + 1) (entry_words (with_word c i spare.0 word (get_or (words_of call.key) word 0) w) spare.0) ≡ take (call.stored + 1) (words_of call.key)
 stored_more c i call spare word w sized sound may =
     let was = sound.seats i may.live in
@@ -68,7 +69,7 @@ stored_more c i call spare word w sized sound may =
     ∙ (ap (λ l. l ++ get_or key call.stored 0 ∷ []) ((was.search call may.in_call).stored spare may.has_spare)
     ∙ sym (take_more key call.stored 0 (omega arith))))
 
-stores : (c : Machine) (i : ℕ) (call : Call) (spare : Entry) (word : ℕ) → IsSized c → IsSound c → IsStoring c i call spare word
+stores : (c : Machine) (i : ℕ) (call : Call) (spare : Entry) (word : ℕ) → IsSized c → IsSoundMachine c → IsStoring c i call spare word
     → Keeps c (with_word c i spare.0 word (get_or (words_of call.key) word 0) (record (seat_at c i) { call = Some (more_stored call) }))
 stores c i call spare word sized sound may =
     let seat : Seat = seat_at c i in
@@ -86,14 +87,14 @@ stores c i call spare word sized sound may =
       passed = grow_passed c d g call.key call.at search.passed;
       found = λ e is. let f = search.found e is in (g.names call.at e.0 f.0, ap (take call.right) (g.words call.at e.0 f.0) ∙ f.1);
       none_right = search.none_right;
-      stored = λ e is. subst (λ (x : Entry). take (call.stored + 1) (entry_words d x.0) ≡ take (call.stored + 1) (words_of call.key)) (some_same spare e (sym may.has_spare ∙ is)) (stored_more c i call spare word w sized sound may);
-      none_stored = λ none. absurd (none≢some spare (sym none ∙ may.has_spare));
+      stored = λ e is. subst (λ (x : Entry). take (call.stored + 1) (entry_words d x.0) ≡ take (call.stored + 1) (words_of call.key)) (same_Some spare e (sym may.has_spare ∙ is)) (stored_more c i call spare word w sized sound may);
+      none_stored = λ none. absurd (none-some spare (sym none ∙ may.has_spare));
     } in
     let mine : IsSeat d w = record {
       known = known_moved c d g seat w refl was.known;
       own_known = was.own_known;
       spare = λ e is. let s = was.spare e is in record { claimed = grow_claimed c d g e.0 s.claimed; unpublished = s.unpublished; counted = s.counted };
-      search = λ call' is. subst (IsSearch d w) (some_same (more_stored call) call' is) new_search;
+      search = λ call' is. subst (IsSearch d w) (same_Some (more_stored call) call' is) new_search;
       stands = was.stands;
       unpublished = was.unpublished;
       less_without_spare = was.less_without_spare;
@@ -123,7 +124,7 @@ stores c i call spare word sized sound may =
         named_once = sound.named_once;
         listed_once = λ b e names. listed e ∙ sound.listed_once b e names;
         listed_never = λ e never. listed e ∙ sound.listed_never e never;
-        filled_from_start = λ b e k names within passed. sound.filled_from_start b e k names within (subst (λ l. IsPassed (start_of l (bucket_count c)) b k) (g.words b e names) passed);
+        filled_from_start = λ b e k names within passed. sound.filled_from_start b e k names within (subst (λ l. IsPassed (first_bucket l (bucket_count c)) b k) (g.words b e names) passed);
         distinct_keys = λ a b e h names names' same. sound.distinct_keys a b e h names names' (sym (g.words a e names) ∙ (same ∙ g.words b h names'));
         seats = seats_changed c d g sound i w live mine (leaves c i spare word value w sound live may.has_spare);
         own_spare = spares_changed c sound i w live (spare_kept c sound i w live refl);
@@ -135,7 +136,7 @@ stores c i call spare word sized sound may =
       stays = record { limit = refl; most = refl; count = refl; buckets = λ b full. refl; words = g.words };
     }
 
-in_spare : (c : Machine) (i word : ℕ) → IsSized c → IsSound c → (o : Option Call) (s : Option Entry) → (seat_at c i).call ≡ o → (seat_at c i).spare ≡ s → Keeps c (store_in c i word o s)
+in_spare : (c : Machine) (i word : ℕ) → IsSized c → IsSoundMachine c → (o : Option Call) (s : Option Entry) → (seat_at c i).call ≡ o → (seat_at c i).spare ≡ s → Keeps c (store_in c i word o s)
 in_spare c i word sized sound None s is has = keeps_same c sized sound
 in_spare c i word sized sound (Some call) None is has = keeps_same c sized sound
 in_spare c i word sized sound (Some call) (Some spare) is has =
@@ -148,5 +149,5 @@ in_spare c i word sized sound (Some call) (Some spare) is has =
     (λ _. keeps_same c sized sound)
 
 -- a word that is stored keeps the invariant
-pub store_content_keeps : (c : Machine) (i word : ℕ) → IsSized c → IsSound c → Keeps c (store_content c i word)
+pub store_content_keeps : (c : Machine) (i word : ℕ) → IsSized c → IsSoundMachine c → Keeps c (store_content c i word)
 store_content_keeps c i word sized sound = in_spare c i word sized sound (seat_at c i).call (seat_at c i).spare refl refl

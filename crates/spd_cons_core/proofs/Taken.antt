@@ -10,14 +10,14 @@ use Rattle.spd_cons_core.specs.Views.{Seat, Machine}
 use Rattle.spd_cons_core.specs.Seats.{seat_at, with_seat, bucket, bucket_count, entry, entry_words, spent}
 use Rattle.spd_cons_core.specs.Events.{load_bucket, after_bucket, can_claim, after_claim, claim, can_store, store_in, store_content, can_split, after_split, split_off, split, can_exchange, after_exchange, exchange_in, exchange_bucket, can_compare, after_content, compare_in, load_content, can_join, after_join, join, can_load_bucket, call_for, new_call}
 use Rattle.spd_cons_core.specs.Spelling.{words_of}
-use Rattle.spd_cons_core.specs.Invariants.{IsSized, IsSound}
+use Rattle.spd_cons_core.specs.Invariants.{IsSized, IsSoundMachine}
 use Rattle.spd_cons_core.proofs.Starts.{start_below}
 use Rattle.spd_cons_core.proofs.LoadsBucket.{some_buckets}
 use Rattle.spd_cons_core.proofs.Bounds.{call_within, found_within}
 
 -- an exchange
 
-pub exchange_at : (c : Machine) → IsSound c → (i : ℕ) (seat : Seat) (call : Call) (b : Bool) → seat ≡ seat_at c i → b ≡ can_exchange call seat → b ≡ true → seat.call ≡ Some call → call.at < bucket_count c
+pub exchange_at : (c : Machine) → IsSoundMachine c → (i : ℕ) (seat : Seat) (call : Call) (b : Bool) → seat ≡ seat_at c i → b ≡ can_exchange call seat → b ≡ true → seat.call ≡ Some call → call.at < bucket_count c
 exchange_at c sound i seat call b same test passed is = call_within c sound i seat call same (and_parts seat.live _ (sym test ∙ passed)).0 is
 
 pub exchange_taken : (c : Machine) (i : ℕ) (seat : Seat) (call : Call) (spare : Entry) (b : Bool) → seat ≡ seat_at c i → b ≡ can_exchange call seat → b ≡ true → seat.call ≡ Some call → seat.spare ≡ Some spare
@@ -33,12 +33,12 @@ compare_found : (call : Call) (e : Entry) (o : Option Entry) → call.found ≡ 
 compare_found call e None is test = absurd (true≢false (sym test))
 compare_found call e (Some x) is test = is ∙ ap (λ (n : ℕ). Some (entry n)) (eqb-true x.0 e.0 test)
 
-pub compare_entry : (c : Machine) → IsSized c → IsSound c → (i : ℕ) (seat : Seat) (call : Call) (e : Entry) (word : ℕ) (b : Bool) → seat ≡ seat_at c i → b ≡ can_compare e word call seat → b ≡ true → seat.call ≡ Some call → e.0 < length c.entries
+pub compare_entry : (c : Machine) → IsSized c → IsSoundMachine c → (i : ℕ) (seat : Seat) (call : Call) (e : Entry) (word : ℕ) (b : Bool) → seat ≡ seat_at c i → b ≡ can_compare e word call seat → b ≡ true → seat.call ≡ Some call → e.0 < length c.entries
 compare_entry c sized sound i seat call e word b same test passed is =
     let all = and_parts seat.live _ (sym test ∙ passed) in
     found_within c sized sound i seat call e same all.0 is (compare_found call e call.found refl (and_parts _ _ all.1).0)
 
-pub compare_bucket : (c : Machine) → IsSound c → (i : ℕ) (seat : Seat) (call : Call) (e : Entry) (word : ℕ) (b : Bool) → seat ≡ seat_at c i → b ≡ can_compare e word call seat → b ≡ true → seat.call ≡ Some call → call.at < bucket_count c
+pub compare_bucket : (c : Machine) → IsSoundMachine c → (i : ℕ) (seat : Seat) (call : Call) (e : Entry) (word : ℕ) (b : Bool) → seat ≡ seat_at c i → b ≡ can_compare e word call seat → b ≡ true → seat.call ≡ Some call → call.at < bucket_count c
 compare_bucket c sound i seat call e word b same test passed is = call_within c sound i seat call same (and_parts seat.live _ (sym test ∙ passed)).0 is
 
 pub content_taken : (c : Machine) (i : ℕ) (e : Entry) (word : ℕ) (seat : Seat) (call : Call) (b : Bool) → seat ≡ seat_at c i → b ≡ can_compare e word call seat → b ≡ true → seat.call ≡ Some call
@@ -61,7 +61,7 @@ join_taken c d i j seat other ended b same same' apart test passed is_ended left
 
 -- a bucket that is loaded
 
-pub call_for_within : (c : Machine) → IsSized c → IsSound c → (i : ℕ) (key : Key) (seat : Seat) (b : Bool) → seat ≡ seat_at c i → b ≡ can_load_bucket key seat → b ≡ true → (call_for (bucket_count c) key seat).at < bucket_count c
+pub call_for_within : (c : Machine) → IsSized c → IsSoundMachine c → (i : ℕ) (key : Key) (seat : Seat) (b : Bool) → seat ≡ seat_at c i → b ≡ can_load_bucket key seat → b ≡ true → (call_for (bucket_count c) key seat).at < bucket_count c
 call_for_within c sized sound i key seat b same test passed = by_call seat.call refl
   where
     by_call : (o : Option Call) → seat.call ≡ o → (unwrap_or o (new_call (bucket_count c) key)).at < bucket_count c

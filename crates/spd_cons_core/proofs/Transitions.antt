@@ -9,10 +9,10 @@ use Rattle.spd_cons_core.specs.declared.mind.Call.{Call}
 use Rattle.spd_cons_core.specs.declared.event.Event.{Event}
 use Rattle.spd_cons_core.specs.declared.event.Event.TheVariants.{LoadBucket, Claim, StoreContent, ExchangeBucket, LoadContent, Split, Join}
 use Rattle.spd_cons_core.specs.Views.{Machine}
-use Rattle.spd_cons_core.specs.Spelling.{words_of, start_of}
+use Rattle.spd_cons_core.specs.Spelling.{words_of, first_bucket}
 use Rattle.spd_cons_core.specs.Seats.{seat_at, bucket, bucket_count, entry_words}
 use Rattle.spd_cons_core.specs.Events.{can_store, store_in, store_content, can_exchange, after_exchange, exchange_in, exchange_bucket, next_bucket, compare_in, step}
-use Rattle.spd_cons_core.specs.Invariants.{IsSized, IsSound, IsPassed, Publishes, seat_of, filled}
+use Rattle.spd_cons_core.specs.Invariants.{IsSized, IsSoundMachine, IsPassed, Publishes, seat_of, filled}
 use Rattle.spd_cons_core.proofs.Fives.{five_of_key, five_of_entry, same_of_five}
 
 -- only the words of the seat's own spare are written
@@ -30,7 +30,7 @@ stores_own_spare c i word e other = stored_words c i word (seat_at c i).call (se
 
 -- a bucket takes only an entry in which the whole key stands
 
-exchanged_bucket : (c : Machine) → IsSized c → IsSound c → (i b : ℕ) (o : Option Call) (s : Option Entry) → (seat_at c i).call ≡ o → (seat_at c i).spare ≡ s → bucket (exchange_in c i o s) b ≢ bucket c b → Publishes c (exchange_in c i o s) i b
+exchanged_bucket : (c : Machine) → IsSized c → IsSoundMachine c → (i b : ℕ) (o : Option Call) (s : Option Entry) → (seat_at c i).call ≡ o → (seat_at c i).spare ≡ s → bucket (exchange_in c i o s) b ≢ bucket c b → Publishes c (exchange_in c i o s) i b
 exchanged_bucket c sized sound i b None s is has = λ changed. absurd (changed refl)
 exchanged_bucket c sized sound i b (Some call) None is has = λ changed. absurd (changed refl)
 exchanged_bucket c sized sound i b (Some call) (Some spare) is has =
@@ -70,36 +70,32 @@ exchanged_bucket c sized sound i b (Some call) (Some spare) is has =
         }
         by_bucket false z here now live words = absurd (changed (ap (λ k. get_or (set c.buckets call.at (cond (eqb (bucket c call.at) 0) (spare.0 + 1) (bucket c call.at))) k 0) here ∙ (now ∙ ap (bucket c) (sym here))))
 
-pub exchanges_whole_key : (c : Machine) → IsSized c → IsSound c → (i b : ℕ) → bucket (exchange_bucket c i) b ≢ bucket c b → Publishes c (exchange_bucket c i) i b
+pub exchanges_whole_key : (c : Machine) → IsSized c → IsSoundMachine c → (i b : ℕ) → bucket (exchange_bucket c i) b ≢ bucket c b → Publishes c (exchange_bucket c i) i b
 exchanges_whole_key c sized sound i b = exchanged_bucket c sized sound i b (seat_at c i).call (seat_at c i).spare refl refl
 
 -- a seat that isn't live takes no event
-
-not_taken : {A : Type 0} (b : Bool) (x y : A) → b ≡ false → cond b x y ≡ y
-not_taken b x y off = cond-false b x y off
-
 pub spent_rests : (c : Machine) (event : Event) → (seat_at c (seat_of event)).live ≡ false → step c event ≡ c
-spent_rests c (LoadBucket i key) off = not_taken _ _ c (and_left (seat_at c i).live _ off)
-spent_rests c (Claim i) off = not_taken _ _ c (and_left (seat_at c i).live _ off)
+spent_rests c (LoadBucket i key) off = cond-false _ _ c (and_left (seat_at c i).live _ off)
+spent_rests c (Claim i) off = cond-false _ _ c (and_left (seat_at c i).live _ off)
 spent_rests c (StoreContent i word) off = by_parts (seat_at c i).call (seat_at c i).spare
   where
     by_parts : (o : Option Call) (s : Option Entry) → store_in c i word o s ≡ c
     by_parts None s = refl
     by_parts (Some call) None = refl
-    by_parts (Some call) (Some spare) = not_taken _ _ c (and_left (seat_at c i).live _ off)
+    by_parts (Some call) (Some spare) = cond-false _ _ c (and_left (seat_at c i).live _ off)
 spent_rests c (ExchangeBucket i) off = by_parts (seat_at c i).call (seat_at c i).spare
   where
     by_parts : (o : Option Call) (s : Option Entry) → exchange_in c i o s ≡ c
     by_parts None s = refl
     by_parts (Some call) None = refl
-    by_parts (Some call) (Some spare) = not_taken _ _ c (and_left (seat_at c i).live _ off)
+    by_parts (Some call) (Some spare) = cond-false _ _ c (and_left (seat_at c i).live _ off)
 spent_rests c (LoadContent i e word) off = by_call (seat_at c i).call
   where
     by_call : (o : Option Call) → compare_in c i e word o ≡ c
     by_call None = refl
-    by_call (Some call) = not_taken _ _ c (and_left (seat_at c i).live _ off)
-spent_rests c (Split i) off = not_taken _ _ c (and_left (seat_at c i).live _ off)
-spent_rests c (Join i j) off = not_taken _ _ c (and_right (not (eqb i j)) _ (and_left ((seat_at c i).live && (seat_at c j).live) _ (and_left (seat_at c i).live _ off)))
+    by_call (Some call) = cond-false _ _ c (and_left (seat_at c i).live _ off)
+spent_rests c (Split i) off = cond-false _ _ c (and_left (seat_at c i).live _ off)
+spent_rests c (Join i j) off = cond-false _ _ c (and_right (not (eqb i j)) _ (and_left ((seat_at c i).live && (seat_at c j).live) _ (and_left (seat_at c i).live _ off)))
 
 -- a search never comes back to its start
 
@@ -116,7 +112,7 @@ all_filled (x ∷ xs) full =
     adds : (a b c n : ℕ) → a ≡ b + c → b ≡ 1 → c ≡ n → a ≡ suc n
     adds a b c n e f g = omega arith
 
-pub goes_on : (c : Machine) → IsSized c → IsSound c → (i : ℕ) (call : Call) (e : Entry) → (seat_at c i).live ≡ true → (seat_at c i).call ≡ Some call → call.found ≡ Some e → next_bucket (bucket_count c) call.at ≢ start_of (words_of call.key) (bucket_count c)
+pub goes_on : (c : Machine) → IsSized c → IsSoundMachine c → (i : ℕ) (call : Call) (e : Entry) → (seat_at c i).live ≡ true → (seat_at c i).call ≡ Some call → call.found ≡ Some e → next_bucket (bucket_count c) call.at ≢ first_bucket (words_of call.key) (bucket_count c)
 goes_on c sized sound i call e live is found back =
     let search = (sound.seats i live).search call is in
     let names = (search.found e found).0 in
@@ -131,7 +127,7 @@ goes_on c sized sound i call e live is found back =
     let more = sized.buckets.1 in
     absurd (omega arith)
   where
-    round : (b : ℕ) → b < bucket_count c → (b ≡ call.at → ⊥) → IsPassed (start_of (words_of call.key) (bucket_count c)) call.at b
+    round : (b : ℕ) → b < bucket_count c → (b ≡ call.at → ⊥) → IsPassed (first_bucket (words_of call.key) (bucket_count c)) call.at b
     round b within other = subst (λ s. IsPassed s call.at b) back
         (cond_both (ltb (call.at + 1) (bucket_count c)) (call.at + 1) 0 (λ s. IsPassed s call.at b)
         (λ _. ⊎_elim (λ (less : b < call.at). inr (inr (omega arith, less))) (λ (more : call.at ≤ b). inr (inl (omega arith, omega (arith, other)))) (cases_lt b call.at))

@@ -7,26 +7,26 @@ use Rattle.spd_cons_core.specs.declared.key.Key.{Key}
 use Rattle.spd_cons_core.specs.declared.mind.Known.{Known}
 use Rattle.spd_cons_core.specs.declared.mind.Call.{Call}
 use Rattle.spd_cons_core.specs.Views.{Seat, Machine}
-use Rattle.spd_cons_core.specs.Spelling.{words_of, start_of, IsKey}
+use Rattle.spd_cons_core.specs.Spelling.{words_of, first_bucket, IsKey}
 use Rattle.spd_cons_core.specs.Seats.{seat_at, bucket, bucket_count, Names, entry_words, same_key, parts_known}
 use Rattle.spd_cons_core.specs.Events.{call_for, can_load_bucket, new_call}
-use Rattle.spd_cons_core.specs.Invariants.{IsSized, IsSound, IsSearch, IsPassed}
+use Rattle.spd_cons_core.specs.Invariants.{IsSized, IsSoundMachine, IsSearch, IsPassed}
 use Rattle.spd_cons_core.proofs.Exchanges.{named_within}
 use Rattle.spd_cons_core.proofs.Starts.{passed_order}
 use Rattle.spd_cons_core.proofs.LoadsBucket.{ready}
 use Rattle.spd_cons_core.proofs.Consequences.{same_key_tells}
 
 -- a search that stands at an empty bucket
-search_unpublished : (c : Machine) (seat : Seat) (call : Call) → IsSound c → IsSearch c seat call → bucket c call.at ≡ 0 → (b e : ℕ) → Names c b e → entry_words c e ≢ words_of call.key
+search_unpublished : (c : Machine) (seat : Seat) (call : Call) → IsSoundMachine c → IsSearch c seat call → bucket c call.at ≡ 0 → (b e : ℕ) → Names c b e → entry_words c e ≢ words_of call.key
 search_unpublished c seat call sound search empty b e names words =
     ⊎_elim
     (λ before. let there = search.passed b (named_within c b e names) before in
     let n = there.names in let which : there.entry ≡ e = omega arith in there.differs (ap (entry_words c) which ∙ words))
     (λ rest. ⊎_elim
     (λ (here : b ≡ call.at). let n : 0 ≡ e + 1 = sym empty ∙ (ap (bucket c) (sym here) ∙ names) in absurd (omega arith))
-    (λ behind. sound.filled_from_start b e call.at names search.at_bucket (subst (λ l. IsPassed (start_of l (bucket_count c)) b call.at) (sym words) behind) empty)
+    (λ behind. sound.filled_from_start b e call.at names search.at_bucket (subst (λ l. IsPassed (first_bucket l (bucket_count c)) b call.at) (sym words) behind) empty)
     rest)
-    (passed_order (start_of (words_of call.key) (bucket_count c)) call.at b)
+    (passed_order (first_bucket (words_of call.key) (bucket_count c)) call.at b)
 
 -- the call with which a seat loads a bucket for a key is one for this key
 call_key : (count : ℕ) (key : Key) (seat : Seat) → can_load_bucket key seat ≡ true → (call_for count key seat).key ≡ key
@@ -37,7 +37,7 @@ call_key count key seat can = by_call seat.call (and_parts seat.live _ can).1
     by_call (Some call) is = (same_key_tells call.key key).0 (and_parts (same_key call.key key) _ is).0
 
 -- the key for which an empty bucket is loaded
-pub key_unpublished : (c : Machine) (i : ℕ) (key : Key) → IsSized c → IsSound c → IsKey key → can_load_bucket key (seat_at c i) ≡ true → bucket c (call_for (bucket_count c) key (seat_at c i)).at ≡ 0
+pub key_unpublished : (c : Machine) (i : ℕ) (key : Key) → IsSized c → IsSoundMachine c → IsKey key → can_load_bucket key (seat_at c i) ≡ true → bucket c (call_for (bucket_count c) key (seat_at c i)).at ≡ 0
     → (b e : ℕ) → Names c b e → entry_words c e ≢ words_of key
 key_unpublished c i key sized sound fits can empty b e names words =
     let seat = seat_at c i in
@@ -47,7 +47,7 @@ key_unpublished c i key sized sound fits can empty b e names words =
     search_unpublished c seat call sound stands.search empty b e names (words ∙ ap words_of (sym (call_key (bucket_count c) key seat can)))
 
 -- so no seat knows it
-pub key_unknown : (c : Machine) (i : ℕ) (key : Key) → IsSized c → IsSound c → IsKey key → can_load_bucket key (seat_at c i) ≡ true → bucket c (call_for (bucket_count c) key (seat_at c i)).at ≡ 0
+pub key_unknown : (c : Machine) (i : ℕ) (key : Key) → IsSized c → IsSoundMachine c → IsKey key → can_load_bucket key (seat_at c i) ≡ true → bucket c (call_for (bucket_count c) key (seat_at c i)).at ≡ 0
     → (j : ℕ) (k : Known) → (seat_at c j).live ≡ true → Contains (seat_at c j).knows k → k.key ≢ key
 key_unknown c i key sized sound fits can empty j k live at same =
     let known = (sound.seats j live).known k at in

@@ -10,7 +10,7 @@ use Rattle.spd_cons_core.specs.declared.mind.Last.TheVariants.{Got, Full}
 use Rattle.spd_cons_core.specs.declared.event.Event.{Event}
 use Rattle.spd_cons_core.specs.declared.event.Event.TheVariants.{LoadBucket, Claim, StoreContent, ExchangeBucket, LoadContent, Split, Join}
 use Rattle.spd_cons_core.specs.Views.{Seat, Machine}
-use Rattle.spd_cons_core.specs.Spelling.{words_of, start_of}
+use Rattle.spd_cons_core.specs.Spelling.{words_of, first_bucket}
 use Rattle.spd_cons_core.specs.Seats.{seat_at, with_seat, spent, bucket, bucket_count, entry, entry_words, same_key, parts_known, learned}
 
 -- LoadBucket -----------------------------------------------------------------------------------
@@ -19,7 +19,7 @@ use Rattle.spd_cons_core.specs.Seats.{seat_at, with_seat, spent, bucket, bucket_
 abbrev pub new_call : ℕ → Key → Call
 new_call count key = record {
   key = key;
-  at = start_of (words_of key) count;
+  at = first_bucket (words_of key) count;
   found = None;
   right = 0;
   empty = false;

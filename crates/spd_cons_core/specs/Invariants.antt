@@ -9,7 +9,7 @@ use Rattle.spd_cons_core.specs.declared.mind.Call.{Call}
 use Rattle.spd_cons_core.specs.declared.event.Event.{Event}
 use Rattle.spd_cons_core.specs.declared.event.Event.TheVariants.{LoadBucket, Claim, StoreContent, ExchangeBucket, LoadContent, Split, Join}
 use Rattle.spd_cons_core.specs.Views.{Seat, Machine}
-use Rattle.spd_cons_core.specs.Spelling.{words_of, start_of, IsKey}
+use Rattle.spd_cons_core.specs.Spelling.{words_of, first_bucket, IsKey}
 use Rattle.spd_cons_core.specs.Seats.{seat_at, bucket, bucket_count, Names, entry_words, is_known, parts_known}
 
 -- the limit and the number of seats are in their ranges, and the lists have the lengths that these give
@@ -58,7 +58,7 @@ pub record IsSearch (c : Machine) (seat : Seat) (call : Call) : Type 0 where
   pub in_range : IsKey call.key
   pub parts : IsTrue (parts_known seat.knows call.key)
   pub at_bucket : call.at < bucket_count c
-  pub passed : (b : ℕ) → b < bucket_count c → IsPassed (start_of (words_of call.key) (bucket_count c)) call.at b → IsOther c call.key b
+  pub passed : (b : ℕ) → b < bucket_count c → IsPassed (first_bucket (words_of call.key) (bucket_count c)) call.at b → IsOther c call.key b
   -- what was found stands in the bucket still, and as many of its first words as were found right are the key's
   pub found : (e : Entry) → call.found ≡ Some e → Names c call.at e.0 × (take call.right (entry_words c e.0) ≡ take call.right (words_of call.key))
   pub none_right : call.found ≡ None → call.right ≡ 0
@@ -81,8 +81,8 @@ pub record IsSeat (c : Machine) (seat : Seat) : Type 0 where
 -- What the seats have together ----------------------------------------------------------------
 
 -- the sum of a number over all live seats
-abbrev pub total : (Seat → ℕ) → Machine → ℕ
-total f c = sum_by (λ seat. if seat.live then f seat else 0) c.seats
+abbrev pub total_over_seats : (Seat → ℕ) → Machine → ℕ
+total_over_seats f c = sum_by (λ seat. if seat.live then f seat else 0) c.seats
 
 -- how often an entry stands in the published list of a seat
 abbrev pub times_listed : ℕ → Seat → ℕ
@@ -101,14 +101,14 @@ abbrev pub filled : Machine → ℕ
 filled c = count_by (λ b. nat_lt 0 b) c.buckets
 
 -- the invariant of the machine
-pub record IsSound (c : Machine) : Type 0 where
+pub record IsSoundMachine (c : Machine) : Type 0 where
   -- only claimed entries are published, each in one bucket and once in the list of one live seat
   pub only_claimed : (b e : ℕ) → Names c b e → IsClaimed c e
   pub named_once : (a b e : ℕ) → Names c a e → Names c b e → a ≡ b
-  pub listed_once : (b e : ℕ) → Names c b e → total (times_listed e) c ≡ 1
-  pub listed_never : (e : ℕ) → ((b : ℕ) → bucket c b ≢ e + 1) → total (times_listed e) c ≡ 0
+  pub listed_once : (b e : ℕ) → Names c b e → total_over_seats (times_listed e) c ≡ 1
+  pub listed_never : (e : ℕ) → ((b : ℕ) → bucket c b ≢ e + 1) → total_over_seats (times_listed e) c ≡ 0
   -- all buckets from the start of a published entry's key to its own are filled
-  pub filled_from_start : (b e k : ℕ) → Names c b e → k < bucket_count c → IsPassed (start_of (entry_words c e) (bucket_count c)) b k → bucket c k ≢ 0
+  pub filled_from_start : (b e k : ℕ) → Names c b e → k < bucket_count c → IsPassed (first_bucket (entry_words c e) (bucket_count c)) b k → bucket c k ≢ 0
   -- two filled buckets name entries of different keys
   pub distinct_keys : (a b d e : ℕ) → Names c a d → Names c b e → entry_words c d ≡ entry_words c e → a ≡ b
   -- each live seat has what it needs
@@ -116,11 +116,11 @@ pub record IsSound (c : Machine) : Type 0 where
   -- no entry is the spare of two live seats
   pub own_spare : (i j : ℕ) (e : Entry) → IsTrue (seat_at c i).live → IsTrue (seat_at c j).live → (seat_at c i).spare ≡ Some e → (seat_at c j).spare ≡ Some e → i ≡ j
   -- the seats count each entry that is claimed and not published, and list each that is published
-  pub all_counted : total (λ seat. seat.unpublished) c + filled c ≡ min c.claims (c.limit + c.most)
-  pub all_listed : total (λ seat. length seat.published) c ≡ filled c
+  pub all_counted : total_over_seats (λ seat. seat.unpublished) c + filled c ≡ min c.claims (c.limit + c.most)
+  pub all_listed : total_over_seats (λ seat. length seat.published) c ≡ filled c
   -- the seats together are as many as may be made, and each claims at most once past the end
-  pub all_seats : total shares c ≡ c.most
-  pub claims_bound : c.claims ≤ (c.limit + c.most) + total stands_at_end c
+  pub all_seats : total_over_seats shares c ≡ c.most
+  pub claims_bound : c.claims ≤ (c.limit + c.most) + total_over_seats stands_at_end c
 
 -- What an event leaves as it was --------------------------------------------------------------
 
@@ -145,7 +145,7 @@ IsEvent (Join seat other) = Unit {0}
 -- the machine after an event meets the invariant again, and what was published stays
 pub record Keeps (before after : Machine) : Type 0 where
   pub sized : IsSized after
-  pub sound : IsSound after
+  pub sound : IsSoundMachine after
   pub stays : Stays before after
 
 -- the seat has put its spare, in which the whole key of its call stands, into a bucket that was empty

@@ -37,5 +37,5 @@ hash_of words = fold mixed 0 words
 
 -- the bucket at which the search for a key starts, of so many buckets: as far into the buckets as
 -- the hash of its words is into the numbers of 64 bits. For 2 ^ b buckets it is the hash's first b bits.
-unfoldable pub start_of : List ℕ → ℕ → ℕ
-start_of words count = hash_of words * count / 2 ^ 64
+unfoldable pub first_bucket : List ℕ → ℕ → ℕ
+first_bucket words count = hash_of words * count / 2 ^ 64

@@ -2,7 +2,7 @@
 ghost use Rattle.std.specs.Prelude.{◌≡◌, ◌*◌, ◌/◌, ◌%◌, ◌^◌, ◌<◌, ◌≤◌, ℤ, FitsSigned};
 ghost use Rattle.std.specs.Int.{w128};
 ghost use Rattle.spd_cons_core.specs.declared.key.Key.{Key};
-ghost use Rattle.spd_cons_core.specs.Spelling.{words_of, low, high, mixed, hash_of, start_of, IsKey};
+ghost use Rattle.spd_cons_core.specs.Spelling.{words_of, low, high, mixed, hash_of, first_bucket, IsKey};
 
 use crate::key::{Entry, Key};
 use crate::table::Words;
@@ -108,7 +108,7 @@ fn hash_of(words: &Words) -> u64
 pub fn start_bucket(key: &Key, bits: u32) -> u64
     requires some_bits { 1 ≤ bits }
     requires most_bits { bits ≤ 63 }
-    ensures start { result ≡ start_of (words_of key.now) (2 ^ bits) }
+    ensures start { result ≡ first_bucket (words_of key.now) (2 ^ bits) }
     ensures below { result < 2 ^ bits }
     ensures in_range { IsKey key.now }
 {

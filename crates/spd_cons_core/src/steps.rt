@@ -3,7 +3,7 @@ ghost use Rattle.std.specs.Prelude.{◌≡◌, ℕ, ◌+◌, ◌^◌, ◌<◌, �
 ghost use Rattle.spd_cons_core.specs.Spelling.{IsKey};
 ghost use Rattle.spd_cons_core.specs.Seats.{seat_at, with_seat, spent, bucket, bucket_count, entry_words};
 ghost use Rattle.spd_cons_core.specs.Events.{can_load_bucket, call_for, load_bucket, claim, store_content, exchange_bucket, load_content, split, after_join, join, step, run};
-ghost use Rattle.spd_cons_core.specs.Invariants.{IsSized, IsSound, Keeps};
+ghost use Rattle.spd_cons_core.specs.Invariants.{IsSized, IsSoundMachine, Keeps};
 
 use crate::Memory;
 use crate::event::Event;
@@ -46,7 +46,7 @@ impl Core {
     /// What stands in a bucket.
     fn load(&self, at: u64) -> u64
         requires sized { IsSized self.now }
-        requires sound { IsSound self.now }
+        requires sound { IsSoundMachine self.now }
         requires within { at < bucket_count self.now }
         ensures value { result ≡ bucket self.now at }
         ensures small { result ≤ 2 ^ 32 }
@@ -111,7 +111,7 @@ impl Core {
     /// The seat's call goes on, or begins, by a look into its bucket.
     pub(crate) fn load_bucket(&mut self, seat: usize, key: Key)
         requires sized { IsSized self.old }
-        requires sound { IsSound self.old }
+        requires sound { IsSoundMachine self.old }
         ensures exact { self.new ≡ load_bucket self.old seat key }
         ensures in_range { IsTrue (can_load_bucket key (seat_at self.old seat)) → IsKey key }
     {
@@ -129,7 +129,7 @@ impl Core {
     /// The seat takes what the claim number was.
     pub(crate) fn claim(&mut self, seat: usize)
         requires sized { IsSized self.old }
-        requires sound { IsSound self.old }
+        requires sound { IsSoundMachine self.old }
         ensures { self.new ≡ claim self.old seat }
     {
         let Some(mind) = self.seat(seat) else {
@@ -147,7 +147,7 @@ impl Core {
     /// The seat stores a word of its call's key in its spare.
     pub(crate) fn store_content(&mut self, seat: usize, word: u8)
         requires sized { IsSized self.old }
-        requires sound { IsSound self.old }
+        requires sound { IsSoundMachine self.old }
         ensures { self.new ≡ store_content self.old seat word }
     {
         let Some(mind) = self.seat(seat) else {
@@ -172,7 +172,7 @@ impl Core {
     #[tactic(auto, using(crate::proofs::Taken::exchange_taken))]
     pub(crate) fn exchange_bucket(&mut self, seat: usize) -> Result<(), Memory>
         requires sized { IsSized self.old }
-        requires sound { IsSound self.old }
+        requires sound { IsSoundMachine self.old }
         ensures { OnOk result (self.new ≡ exchange_bucket self.old seat) }
     {
         let Some(mind) = self.seat(seat) else {
@@ -194,7 +194,7 @@ impl Core {
     #[tactic(auto, using(crate::proofs::Taken::content_taken))]
     pub(crate) fn load_content(&mut self, seat: usize, entry: Entry, word: u8) -> Result<(), Memory>
         requires sized { IsSized self.old }
-        requires sound { IsSound self.old }
+        requires sound { IsSoundMachine self.old }
         ensures { OnOk result (self.new ≡ load_content self.old seat entry word) }
     {
         let Some(mind) = self.seat(seat) else {
@@ -215,7 +215,7 @@ impl Core {
     /// A new seat is added behind the others.
     pub(crate) fn split(&mut self, alloc: Global, seat: usize) -> Result<(), Memory>
         requires sized { IsSized self.old }
-        requires sound { IsSound self.old }
+        requires sound { IsSoundMachine self.old }
         ensures { OnOk result (self.new ≡ split self.old seat) }
     {
         let Some(mind) = self.seats.get_mut(seat) else {
@@ -232,7 +232,7 @@ impl Core {
     /// The first seat takes the other one over.
     pub(crate) fn join(&mut self, alloc: Global, seat: usize, other: usize) -> Result<(), Memory>
         requires sized { IsSized self.old }
-        requires sound { IsSound self.old }
+        requires sound { IsSoundMachine self.old }
         ensures { OnOk result (self.new ≡ join self.old seat other) }
     {
         let (Some(first), Some(second)) = (self.seat(seat), self.seat(other)) else {
@@ -250,7 +250,7 @@ impl Core {
 /// one that `Core::new` made, after any events.
 pub fn step(alloc: Global, core: Core, event: Event) -> Result<Core, Memory>
     requires sized { IsSized core }
-    requires sound { IsSound core }
+    requires sound { IsSoundMachine core }
     ensures exact { IfOk result (λ after. after ≡ step core event) }
     ensures keeps { IfOk result (λ after. Keeps core after) }
 {
@@ -270,7 +270,7 @@ pub fn step(alloc: Global, core: Core, event: Event) -> Result<Core, Memory>
 /// The machine after a list of events, the first one first.
 pub fn run(alloc: Global, core: Core, events: &[Event]) -> Result<Core, Memory>
     requires sized { IsSized core }
-    requires sound { IsSound core }
+    requires sound { IsSoundMachine core }
     ensures exact { IfOk result (λ after. after ≡ run core events.now) }
     ensures keeps { IfOk result (λ after. Keeps core after) }
 {

@@ -52,7 +52,7 @@ impl Core {
     ghost use Rattle.std.specs.Prelude.{◌≡◌, ℕ, ◌+◌, ◌*◌, ◌≤◌, IfOk};
     ghost use Rattle.std.specs.Int.{IsNextPowerOfTwo};
     ghost use Rattle.spd_cons_core.specs.Events.{new_machine};
-    ghost use Rattle.spd_cons_core.specs.Invariants.{IsSized, IsSound};
+    ghost use Rattle.spd_cons_core.specs.Invariants.{IsSized, IsSoundMachine};
 
     /// An empty table for at least `limit` published entries, with one seat of `seats` that may be
     /// made. The limit is 16 to 8,388,608, and the seats are 1 to 128.
@@ -63,7 +63,7 @@ impl Core {
         requires seats_high { seats ≤ 128 }
         ensures empty { IfOk result (λ core. (count : ℕ) × IsNextPowerOfTwo (2 * (limit + seats)) count × (core ≡ new_machine limit seats count)) }
         ensures sized { IfOk result IsSized }
-        ensures sound { IfOk result IsSound }
+        ensures sound { IfOk result IsSoundMachine }
     {
         let count = (2 * (limit + seats)).next_power_of_two() as usize;
         let buckets = vec![in alloc; 0; count]?;

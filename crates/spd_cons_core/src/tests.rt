@@ -1,5 +1,5 @@
 //! Worked schedules of the machine.
-ghost use Rattle.spd_cons_core.specs.Invariants.{IsSized, IsSound};
+ghost use Rattle.spd_cons_core.specs.Invariants.{IsSized, IsSoundMachine};
 ghost use Rattle.std.specs.Prelude.{IfOk};
 
 use super::*;
@@ -45,9 +45,9 @@ fn is_in_call(core: &Core, seat: u32) -> bool {
 /// One step of a seat, if it is in a call.
 fn go_on(alloc: Global, core: Core, seat: u32, key: Key) -> Result<Core, Memory>
     requires sized { IsSized core }
-    requires sound { IsSound core }
+    requires sound { IsSoundMachine core }
     ensures sized { IfOk result IsSized }
-    ensures sound { IfOk result IsSound }
+    ensures sound { IfOk result IsSoundMachine }
 {
     if is_in_call(&core, seat) {
         let event = next_step(&core, seat, key);
@@ -66,9 +66,9 @@ fn find_or_make(
     key: Key,
 ) -> Result<Core, Memory>
     requires sized { IsSized core }
-    requires sound { IsSound core }
+    requires sound { IsSoundMachine core }
     ensures sized { IfOk result IsSized }
-    ensures sound { IfOk result IsSound }
+    ensures sound { IfOk result IsSoundMachine }
 {
     let core = step(alloc, core, Event::LoadBucket { seat: first, key })?;
     let mut core = step(alloc, core, Event::LoadBucket { seat: second, key })?;
@@ -102,9 +102,9 @@ fn make_all(
     to: u32,
 ) -> Result<Core, Memory>
     requires sized { IsSized core }
-    requires sound { IsSound core }
+    requires sound { IsSoundMachine core }
     ensures sized { IfOk result IsSized }
-    ensures sound { IfOk result IsSound }
+    ensures sound { IfOk result IsSoundMachine }
 {
     let mut core = core;
     for number in from..to {
@@ -115,9 +115,9 @@ fn make_all(
 
 fn play(alloc: Global, core: Core, parts: &[Part]) -> Result<Core, Memory>
     requires sized { IsSized core }
-    requires sound { IsSound core }
+    requires sound { IsSoundMachine core }
     ensures sized { IfOk result IsSized }
-    ensures sound { IfOk result IsSound }
+    ensures sound { IfOk result IsSoundMachine }
 {
     let mut core = core;
     for part in parts {

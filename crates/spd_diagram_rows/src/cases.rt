@@ -22,7 +22,7 @@ fn diagrams<F: Forest, L: Ledger>(forest: &mut F, steps: &mut Steps<L>) -> Resul
     Ok(())
 }
 
-fn all<F: Forest, L: Ledger>(
+pub fn all<F: Forest, L: Ledger>(
     alloc: Global,
     forest: &mut F,
     steps: &mut Steps<L>,

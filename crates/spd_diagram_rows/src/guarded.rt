@@ -3,11 +3,10 @@ ghost use Rattle.std.specs.Prelude.{◌≡◌, ℕ, ◌<◌, ◌≤◌, IfOk, Is
 ghost use Rattle.spd_nodes.specs.Levels.{levels_of, slots};
 ghost use Rattle.spd_nodes.specs.Shown.{Shown, Grows, IsWhole};
 
-use crate::reading::is_plain;
 use spd_apply::{LeafMap, LeafOp, apply, fits_leaves, map_leaves, maps_leaves};
 use spd_memo::Memo;
 use spd_nodes::{Forest, Layout, Level, Ref, Steps, can_test, is_whole};
-use spd_restrict::{choose, cofactor, prime};
+use spd_restrict::{choose, cofactor, is_plain, prime};
 use std::alloc::Global;
 use std::sync::ledger::Ledger;
 use std::test::Fail;

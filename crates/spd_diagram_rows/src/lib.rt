@@ -8,6 +8,8 @@ mod cases;
 #[cfg(test)]
 mod deep;
 #[cfg(test)]
+mod groves;
+#[cfg(test)]
 mod guarded;
 #[cfg(test)]
 mod indicators;

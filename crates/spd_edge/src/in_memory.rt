@@ -1,5 +1,5 @@
 //! Sources and sinks in memory, whose calls are numbered from 0 and fail at the numbers that were given.
-ghost use Rattle.std.specs.Prelude.{◌≡◌, ◌+◌, ◌-◌, ◌^◌, ◌<◌, ◌≤◌, [], ◌++◌, length, drop, vec_len, vec_capacity, ◌↔◌, Some, IsTrue, IsErr, IfOk, OnOk, OnErr};
+ghost use Rattle.std.specs.Prelude.{◌≡◌, ◌+◌, ◌^◌, ◌<◌, ◌≤◌, [], ◌++◌, length, drop, vec_len, vec_capacity, ◌↔◌, Some, IsTrue, IsErr, IfOk, OnOk, OnErr};
 ghost use Rattle.spd_edge.specs.Memory.{Input, Output, is_failing, number_after, bytes_given, after_giving, after_no_read, is_refusing, bytes_taken, after_taking, after_no_write};
 
 use crate::outside::{Failed, Memory, Opened, Sink, Source};

@@ -1,10 +1,9 @@
 //! A place in memory: inputs and outputs that were put there under names.
-ghost use Rattle.std.specs.Prelude.{◌≡◌, ◌≢◌, ℕ, ◌^◌, ◌<◌, ◌≤◌, List, [], None, Some, IsSome, IfOk, OnOk, OnErr, IfSome, option_map, option_copied};
+ghost use Rattle.std.specs.Prelude.{◌≡◌, [], None, Some, IfOk, OnOk, OnErr, option_map, option_copied};
 ghost use Rattle.spd_edge.specs.Counts.{AllInRange, NoneFalls};
 ghost use Rattle.spd_edge.specs.Direction.{AfterOpen, Closes};
 ghost use Rattle.spd_edge.specs.Names.{SameButFor, updated};
 ghost use Rattle.spd_edge.specs.MemoryPlace.{AllPut, IsUnread, IsUnwritten, MemoryPlace, OpensOn, closed_on, empty_shelf, inputs_of, outputs_of, input_direction, output_direction, shelf_of};
-ghost use Rattle.spd_edge.specs.declared.outside.Open.TheVariants as Open;
 ghost use Rattle.spd_edge.specs.declared.outside.Stage.TheVariants as Stage;
 
 use crate::in_memory::{MemIn, MemOut};

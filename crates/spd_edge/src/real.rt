@@ -1,6 +1,6 @@
 //! The place of the system: its files and standard streams. It tells no bytes, and is the edge that is trusted.
-ghost use Rattle.std.specs.Prelude.{◌≡◌, ◌^◌, ◌<◌, ◌≤◌, ℕ, List, [], None, Some, IfOk, IsErr, OnOk, OnErr, IfErr};
-ghost use Rattle.spd_edge.specs.Counts.{AllInRange, NoneFalls, counted};
+ghost use Rattle.std.specs.Prelude.{◌≡◌, ◌^◌, ◌<◌, ℕ, List, [], None, Some, IfOk, IsErr, OnOk, OnErr, IfErr};
+ghost use Rattle.spd_edge.specs.Counts.{NoneFalls, counted};
 ghost use Rattle.spd_edge.specs.Direction.{Closes, staged};
 ghost use Rattle.spd_edge.specs.declared.outside.Open.TheVariants as Open;
 ghost use Rattle.spd_edge.specs.declared.outside.Stage.TheVariants as Stage;

@@ -1,5 +1,5 @@
 //! One direction of a place in memory: what was put there, opened and closed under names.
-ghost use Rattle.std.specs.Prelude.{◌≡◌, ◌^◌, ◌<◌, ◌≤◌, None, Some, IsSome, position, option_copied, OnOk, OnErr, if◌then◌else◌};
+ghost use Rattle.std.specs.Prelude.{◌≡◌, ◌^◌, ◌<◌, None, Some, IsSome, position, option_copied, OnOk, OnErr, if◌then◌else◌};
 ghost use Rattle.std.specs.Str.{bytes_eq};
 ghost use Rattle.spd_edge.specs.Counts.{AllInRange};
 ghost use Rattle.spd_edge.specs.Names.{is_among, updated};

@@ -1,14 +1,14 @@
 -- The nodes of a diagram, in order of first completion.
-use Rattle.std.proofs.Common.{◌≡◌, ℕ, ◌<◌, ◌⊎◌, inl, inr, Bool, true, false, List, [], ◌∷◌, ◌++◌, length, map, refl, ap, sym, ◌∙◌, subst, arith, append_assoc, append-nil, if◌then◌else◌}
+use Rattle.std.proofs.Common.{◌≡◌, ℕ, inl, inr, true, false, List, [], ◌∷◌, ◌++◌, refl, ap, sym, ◌∙◌, subst, append_assoc, append-nil}
 use Rattle.std.specs.Prelude.{Contains, All}
 use Rattle.std.specs.List.{list_all}
 use Rattle.std.proofs.lemmas.Bool.{and_parts}
-use Rattle.std.proofs.lemmas.List.Elements.{All-push, All-weaker, All-contains, All-nil, All-append, Contains-append_left, Contains-push}
-use Rattle.spd_model.specs.Reduced.{Diagram, leaf, branch, Subtrees, none, also, subtrees_of, is_equal, node_number, node_numbers, with_node, nodes_after, nodes_after_all, nodes_of, choice_of}
+use Rattle.std.proofs.lemmas.List.Elements.{All-push, All-weaker, All-contains, All-nil, Contains-append_left, Contains-push}
+use Rattle.spd_model.specs.Reduced.{Diagram, Subtrees, none, also, subtrees_of, is_equal, with_node, nodes_after, nodes_after_all, nodes_of, choice_of}
 use Rattle.spd_nodes.specs.Trees.{leaf_eq}
 use Rattle.spd_nodes.specs.declared.leaf.Leaf.{Leaf}
 use Rattle.spd_frozen.specs.inner.Unique.{AreAmong, HasSubtreesAmong, IsClosed}
-use Rattle.spd_frozen.proofs.Places.{D, is_equal-true, there-or-new, with_node-there, with_node-new, number-append, number-is, number-below}
+use Rattle.spd_frozen.proofs.Places.{D, is_equal-true, there-or-new, with_node-there, with_node-new}
 
 -- subtrees that are among some diagrams are among more
 pub AreAmong-append : (xs ys : List D) (es : Subtrees Leaf) → AreAmong xs es → AreAmong (xs ++ ys) es
@@ -59,15 +59,15 @@ pub record WithNode (ds : List D) (d : D) (new : List D) : Type 0 where
 
 pub with_node-is : (ds : List D) (d : D) → HasSubtreesAmong ds d → WithNode ds d (with_node leaf_eq ds d)
 with_node-is ds d h = elim (there-or-new ds d) [
-    | inl c ↦ subst (λ (l : List D). WithNode ds d l) (sym (with_node-there ds d c)) (record { goes_on = goes_on-none ds; there = c; closed = λ k. k })
-    | inr n ↦ subst (λ (l : List D). WithNode ds d l) (sym (with_node-new ds d n)) (record {
-        goes_on = record { more = d ∷ []; is = refl; order = (h, tt) };
-        there = Contains-push ds d;
-        closed = λ k. All-push (HasSubtreesAmong (ds ++ d ∷ [])) ds d
-          (All-weaker (HasSubtreesAmong ds) (HasSubtreesAmong (ds ++ d ∷ [])) (λ e p. HasSubtreesAmong-append ds (d ∷ []) e p) ds k)
-          (HasSubtreesAmong-append ds (d ∷ []) d h);
-      })
-  ]
+  | inl c ↦ subst (λ (l : List D). WithNode ds d l) (sym (with_node-there ds d c)) (record { goes_on = goes_on-none ds; there = c; closed = λ k. k })
+  | inr n ↦ subst (λ (l : List D). WithNode ds d l) (sym (with_node-new ds d n)) (record {
+    goes_on = record { more = d ∷ []; is = refl; order = (h, tt) };
+    there = Contains-push ds d;
+    closed = λ k. All-push (HasSubtreesAmong (ds ++ d ∷ [])) ds d
+        (All-weaker (HasSubtreesAmong ds) (HasSubtreesAmong (ds ++ d ∷ [])) (λ e p. HasSubtreesAmong-append ds (d ∷ []) e p) ds k)
+        (HasSubtreesAmong-append ds (d ∷ []) d h);
+  })
+]
 
 -- what completing diagrams does to a list
 pub record AllDone (ds : List D) (es : Subtrees Leaf) (new : List D) : Type 0 where
@@ -142,9 +142,9 @@ pub record IsInherited (P : D → Type 0) (Q : Subtrees Leaf → Type 0) : Type 
 module _ (P : D → Type 0) (Q : Subtrees Leaf → Type 0) (inherited : IsInherited P Q) where
   All-with_node : (ds : List D) (d : D) → All P ds → P d → All P (with_node leaf_eq ds d)
   All-with_node ds d h p = elim (there-or-new ds d) [
-      | inl c ↦ subst (λ (l : List D). All P l) (sym (with_node-there ds d c)) h
-      | inr n ↦ subst (λ (l : List D). All P l) (sym (with_node-new ds d n)) (All-push P ds d h p)
-    ]
+    | inl c ↦ subst (λ (l : List D). All P l) (sym (with_node-there ds d c)) h
+    | inr n ↦ subst (λ (l : List D). All P l) (sym (with_node-new ds d n)) (All-push P ds d h p)
+  ]
 
   mutual
     pub All-nodes_after : (before : List D) (d : D) → All P before → P d → All P (nodes_after leaf_eq before d)

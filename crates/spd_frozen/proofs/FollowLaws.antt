@@ -1,27 +1,27 @@
 -- Following a state from a node of a list to a leaf.
-use Rattle.std.proofs.Common.{◌≡◌, ℕ, zero, suc, ◌+◌, ◌<◌, ◌≤◌, List, [], ◌∷◌, ◌++◌, length, map, get_or, refl, ap, sym, ◌∙◌, subst, arith, pos, Option, Some, None}
+use Rattle.std.proofs.Common.{◌≡◌, ℕ, zero, suc, ◌+◌, ◌<◌, List, [], ◌∷◌, length, map, get_or, refl, ap, sym, ◌∙◌, subst, arith, Some}
 use Rattle.std.specs.Prelude.{All, slice_get, slice_index, Vec}
 use Rattle.std.specs.declared.alloc.Global.{Global}
-use Rattle.std.proofs.lemmas.List.{get_or-map, length-map, get_or_default}
+use Rattle.std.proofs.lemmas.List.{get_or-map, length-map}
 use Rattle.std.proofs.lemmas.List.Elements.{All-weaker}
-use Rattle.std.proofs.lemmas.Option.{get_or_from_slice_get, slice_get-get_or}
-use Rattle.spd_model.specs.Reduced.{Diagram, leaf, branch, Subtrees, none, also, subtrees_of, Node}
+use Rattle.std.proofs.lemmas.Option.{slice_get-get_or}
+use Rattle.spd_model.specs.Reduced.{subtrees_of, Node}
 use Rattle.spd_nodes.specs.declared.leaf.Leaf.{Leaf}
 use Rattle.spd_frozen.specs.declared.node.Node.{Node as StoredNode}
 use Rattle.spd_frozen.specs.declared.node.Node.TheVariants as Stored
 use Rattle.spd_frozen.specs.Nodes.{shown, all_shown}
-use Rattle.spd_frozen.specs.Frozen.{IsAfter, IsNodeAt, IsFrozen, HasKid, diagram_of, diagrams, reached, reached_among, leaf_at}
+use Rattle.spd_frozen.specs.Frozen.{IsAfter, IsNodeAt, IsFrozen, HasKid, diagram_of, diagrams, reached, reached_among}
 use Rattle.spd_frozen.specs.inner.Unique.{HasKidsBelow, KidsFirst}
 use Rattle.spd_frozen.proofs.Places.{D}
-use Rattle.spd_frozen.proofs.Reading.{nothing, kid_at, diagrams-each, length-diagrams_after}
+use Rattle.spd_frozen.proofs.Reading.{nothing, kid_at, diagrams-each}
 
 -- kids stand first in a list that is a diagram
 kids_first : (m : ℕ) (nodes : List (Node Leaf)) → ((i : ℕ) (n : Node Leaf) → slice_get nodes i ≡ Some n → HasKidsBelow (m + i) n) → KidsFirst m nodes
 kids_first m [] h = tt
 kids_first m (n ∷ nodes) h = (
-    subst (λ (k : ℕ). HasKidsBelow k n) (omega arith) (h 0 n refl),
-    kids_first (suc m) nodes (λ i x e. subst (λ (k : ℕ). HasKidsBelow k x) (omega arith) (h (suc i) x e)),
-  )
+  subst (λ (k : ℕ). HasKidsBelow k n) (omega arith) (h 0 n refl),
+  kids_first (suc m) nodes (λ i x e. subst (λ (k : ℕ). HasKidsBelow k x) (omega arith) (h (suc i) x e)),
+)
 
 kids_below : (nodes : List (Node Leaf)) (i : ℕ) (n : Node Leaf) → IsNodeAt nodes i n → HasKidsBelow (0 + i) n
 kids_below nodes i (Node.leaf x) h = tt
@@ -73,6 +73,6 @@ at-branch items s i node var kids h has within e is =
       kid_in = kid.1;
       smaller = λ k q. (let both = fits.1 v k kid.1 in subst (λ (j : ℕ). j < i) (sym q) both.0);
       same = λ k q. ap (reached s) (diagram-at nodes i n (frozen-kids_first nodes h) in' stands)
-        ∙ reached_among-at s v (map (kid_at ds) kids.items) (omega (arith, length-map kids.items (kid_at ds), kid.1))
-        ∙ ap (reached s) (get_or-map (kid_at ds) kids.items v k nothing kid.1 ∙ ap (kid_at ds) (sym q));
+          ∙ reached_among-at s v (map (kid_at ds) kids.items) (omega (arith, length-map kids.items (kid_at ds), kid.1))
+          ∙ ap (reached s) (get_or-map (kid_at ds) kids.items v k nothing kid.1 ∙ ap (kid_at ds) (sym q));
     }

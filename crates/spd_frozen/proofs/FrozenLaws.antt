@@ -1,14 +1,13 @@
 -- The list of a function's reduced diagram: it is a diagram, fits its variables, and has the function's leaf at each state.
-use Rattle.std.proofs.Common.{◌≡◌, ℕ, zero, suc, ◌+◌, ◌-◌, ◌<◌, ◌≤◌, ◌⊎◌, inl, inr, Bool, true, false, ◌&&◌, List, [], ◌∷◌, ◌++◌, length, map, take, drop, get_or, refl, ap, sym, ◌∙◌, subst, arith, add-one, pos, length-append, append_assoc, append-nil, Option, Some, None}
+use Rattle.std.proofs.Common.{◌≡◌, ℕ, zero, suc, ◌-◌, ◌<◌, ◌≤◌, inl, inr, Bool, true, false, List, [], ◌∷◌, ◌++◌, length, map, take, drop, get_or, refl, ap, sym, ◌∙◌, subst, arith, length-append, append_assoc, append-nil, Some}
 use Rattle.std.specs.Prelude.{All, Contains, slice_get, slice_index}
 use Rattle.std.specs.List.{list_all}
 use Rattle.std.proofs.lemmas.Bool.{and_parts}
-use Rattle.std.proofs.lemmas.Bool.Decides.{leb_tells}
-use Rattle.std.proofs.lemmas.List.{map-append, length-map, get_or-map, get_or_at, get_or_append_left, get_or_push, take_more, get_or-take, length-take-le, take-append-drop, get_or_past}
-use Rattle.std.proofs.lemmas.List.Elements.{All-head, All-tail, All-cons, All-nil, All-contains, All-map, All-weaker, All-push}
-use Rattle.std.proofs.lemmas.Option.{slice_get-get_or, slice_get_within, get_or_from_slice_get}
+use Rattle.std.proofs.lemmas.List.{length-map, get_or-map, get_or_at, get_or_append_left, get_or_push, length-take-le, take-append-drop}
+use Rattle.std.proofs.lemmas.List.Elements.{All-head, All-tail, All-cons, All-nil, All-contains, All-map, All-weaker}
+use Rattle.std.proofs.lemmas.Option.{slice_get-get_or, slice_get_within}
 use Rattle.spd_model.specs.Numbers.{numbers_below}
-use Rattle.spd_model.specs.Reduced.{Diagram, leaf, branch, Subtrees, none, also, subtrees_of, Node, is_equal, choice_of, reduced, reduced_from, with_node, nodes_after, nodes_after_all, nodes_of, node_number, node_numbers, node_of, listed}
+use Rattle.spd_model.specs.Reduced.{Diagram, Subtrees, none, also, subtrees_of, Node, is_equal, choice_of, reduced, reduced_from, nodes_after, nodes_after_all, nodes_of, node_number, node_numbers, node_of}
 use Rattle.spd_model.specs.States.{IsState}
 use Rattle.spd_nodes.specs.Trees.{leaf_eq}
 use Rattle.spd_nodes.specs.declared.leaf.Leaf.{Leaf}
@@ -17,7 +16,7 @@ use Rattle.spd_frozen.specs.Frozen.{entry_at, frozen_of, HasKid, IsAfter, IsNode
 use Rattle.spd_frozen.specs.Fits.{FitsNode, FitsSizes, HasLeaf, HasLeaves}
 use Rattle.spd_frozen.specs.inner.Unique.{AreAmong, HasSubtreesAmong}
 use Rattle.spd_frozen.proofs.Places.{D, is_equal-true, number-is, number-below, number-append, there-or-new, with_node-new}
-use Rattle.spd_frozen.proofs.Completion.{AreInOrder, GoesOn, IsInherited, nodes_after-is, nodes_after_all-is, All-nodes_after, All-nodes_after_all, All-nodes_of}
+use Rattle.spd_frozen.proofs.Completion.{AreInOrder, IsInherited, nodes_after-is, All-nodes_after_all, All-nodes_of}
 use Rattle.spd_frozen.proofs.Reading.{nothing, diagrams-nodes}
 use Rattle.spd_frozen.proofs.FollowLaws.{reached_among-at}
 use Rattle.spd_model.proofs.CallerLemmas.Lists.{length-numbers_below, get_or-numbers_below, All-numbers_below}
@@ -72,7 +71,7 @@ choice-suits sizes P var (d ∷ ds) some within long h = go (list_all (is_equal 
     go false e =
         let n : count (subtrees_of (d ∷ ds)) ≡ length (d ∷ ds) = count-subtrees_of (d ∷ ds) in
         let is : Suits sizes P var (Diagram.branch var (subtrees_of (d ∷ ds))) =
-            (omega arith, within, n ∙ long, omega arith, AllSuit-from sizes P (suc var) (d ∷ ds) h) in
+        (omega arith, within, n ∙ long, omega arith, AllSuit-from sizes P (suc var) (d ∷ ds) h) in
         rw e is
 
 -- all variables have a value
@@ -90,8 +89,8 @@ reduced-suits sizes front (size ∷ rest) P var f e n some h =
     let at-var : slice_index sizes var ≡ size = ap (λ (l : List ℕ). get_or l var 0) e ∙ get_or_at front size rest 0 var (sym n) in
     let within : var < length sizes = omega (arith, ap length e, length-append front (size ∷ rest), n) in
     choice-suits sizes P var (map F (numbers_below size)) (omega (arith, long, first)) within (long ∙ sym at-var)
-      (All-map (Suits sizes P (suc var)) F (numbers_below size) (All-numbers_below (λ v. Suits sizes P (suc var) (F v)) size (λ v q. reduced-suits sizes (front ++ size ∷ []) rest P (suc var) (λ s. f (v ∷ s)) (e ∙ sym (append_assoc front (size ∷ []) rest))
-        (omega (arith, n, length-append front (size ∷ []))) others (λ s k. h (v ∷ s) (q, k)))))
+    (All-map (Suits sizes P (suc var)) F (numbers_below size) (All-numbers_below (λ v. Suits sizes P (suc var) (F v)) size (λ v q. reduced-suits sizes (front ++ size ∷ []) rest P (suc var) (λ s. f (v ∷ s)) (e ∙ sym (append_assoc front (size ∷ []) rest))
+    (omega (arith, n, length-append front (size ∷ []))) others (λ s k. h (v ∷ s) (q, k)))))
 
 -- subtrees stand before their diagram
 order-at : (before ds : List D) (i : ℕ) → AreInOrder before ds → i < length ds → HasSubtreesAmong (before ++ take i ds) (get_or ds i nothing)
@@ -140,16 +139,16 @@ module _ (sizes : List ℕ) (P : Leaf → Type 0) where
   is-frozen ds some order suits = record {
     some = omega (arith, length-map ds (node_of leaf_eq ds));
     each = λ i n e. (
-      let within : i < length ds = omega (arith, slice_get_within (nodes ds) i n e, length-map ds (node_of leaf_eq ds)) in
-      let d = get_or ds i nothing in
-      let is : n ≡ node_of leaf_eq ds d = cc (node-of-place ds i within) in
-      let split : take i ds ++ drop i ds ≡ ds = take-append-drop i ds in
-      let long : length (take i ds) ≡ i = length-take-le i ds (omega arith) in
-      let R : List D → ℕ → Type 0 = λ l j. IsNodeAt (nodes l) j (node_of leaf_eq l d) in
-      let fits : R (take i ds ++ drop i ds) (length (take i ds)) = node-fits (take i ds) (drop i ds) d (order-at [] ds i order within) (suits i nothing within) in
-      let fits' : R ds i = subst (λ (l : List D). R l i) split (subst (R (take i ds ++ drop i ds)) long fits) in
-      subst (IsNodeAt (nodes ds) i) (sym is) fits'
-    );
+        let within : i < length ds = omega (arith, slice_get_within (nodes ds) i n e, length-map ds (node_of leaf_eq ds)) in
+        let d = get_or ds i nothing in
+        let is : n ≡ node_of leaf_eq ds d = cc (node-of-place ds i within) in
+        let split : take i ds ++ drop i ds ≡ ds = take-append-drop i ds in
+        let long : length (take i ds) ≡ i = length-take-le i ds (omega arith) in
+        let R : List D → ℕ → Type 0 = λ l j. IsNodeAt (nodes l) j (node_of leaf_eq l d) in
+        let fits : R (take i ds ++ drop i ds) (length (take i ds)) = node-fits (take i ds) (drop i ds) d (order-at [] ds i order within) (suits i nothing within) in
+        let fits' : R ds i = subst (λ (l : List D). R l i) split (subst (R (take i ds ++ drop i ds)) long fits) in
+        subst (IsNodeAt (nodes ds) i) (sym is) fits'
+        );
   }
 
   fits-suits : (ds : List D) (d : D) → Suits sizes P 0 d → FitsNode sizes (node_of leaf_eq ds d)
@@ -170,9 +169,9 @@ module _ (sizes : List ℕ) (P : Leaf → Type 0) where
   root-last : (d : D) → Suits sizes P 0 d → (front : List D) × (nodes_of leaf_eq d ≡ front ++ d ∷ [])
   root-last (Diagram.leaf x) h = ([], refl)
   root-last (Diagram.branch v es) h = elim (there-or-new (nodes_after_all leaf_eq [] es) (Diagram.branch v es)) [
-      | inl c ↦ absurd (root-new v es h c)
-      | inr n ↦ (nodes_after_all leaf_eq [] es, with_node-new (nodes_after_all leaf_eq [] es) (Diagram.branch v es) n)
-    ]
+    | inl c ↦ absurd (root-new v es h c)
+    | inr n ↦ (nodes_after_all leaf_eq [] es, with_node-new (nodes_after_all leaf_eq [] es) (Diagram.branch v es) n)
+  ]
 
 -- the order of a function's nodes
 order-of : (d : D) → AreInOrder [] (nodes_of leaf_eq d)
@@ -274,6 +273,6 @@ fits-kids sizes s all h state = All-weaker (FitsNode sizes) (HasKid s) kid all h
     kid : (n : Node Leaf) → FitsNode sizes n → HasKid s n
     kid (Node.leaf x) f = tt
     kid (Node.branch v kids) f = (
-        omega (arith, length-IsState sizes s state, f.0),
-        subst (λ (m : ℕ). slice_index s v < m) (sym f.1) (value_below sizes s state v f.0),
-      )
+      omega (arith, length-IsState sizes s state, f.0),
+      subst (λ (m : ℕ). slice_index s v < m) (sym f.1) (value_below sizes s state v f.0),
+    )

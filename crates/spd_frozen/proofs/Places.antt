@@ -1,14 +1,13 @@
 -- Equal diagrams, and where a diagram stands in a list.
-use Rattle.std.proofs.Common.{◌≡◌, ℕ, zero, suc, ◌+◌, ◌<◌, ◌≤◌, ◌⊎◌, inl, inr, Bool, true, false, not, cond, ◌&&◌, ◌==◌, List, [], ◌∷◌, ◌++◌, length, map, get_or, refl, ap, sym, ◌∙◌, subst, arith, length-append, true≢false, Some, None, unwrap_or, nat_lt, eqb, if◌then◌else◌}
-use Rattle.std.specs.Prelude.{Contains, All, pos}
-use Rattle.std.specs.List.{list_any, position, position_or_len, prefix_len}
+use Rattle.std.proofs.Common.{◌≡◌, ℕ, ◌<◌, ◌⊎◌, inl, inr, Bool, true, false, not, ◌==◌, List, [], ◌∷◌, ◌++◌, length, get_or, refl, ap, sym, ◌∙◌, subst, arith, length-append, true≢false, nat_lt, eqb}
+use Rattle.std.specs.Prelude.{Contains}
+use Rattle.std.specs.List.{list_any, position_or_len}
 use Rattle.std.proofs.lemmas.Bool.{and_parts}
-use Rattle.std.proofs.lemmas.Bool.Decides.{Decides-eqb, Decides-ltb, leb_tells, eqb_tells, nat_tests}
-use Rattle.std.proofs.lemmas.List.{get_or_append_left, get_or_push, get_or_default}
-use Rattle.std.proofs.lemmas.List.Folds.{prefix_len-append, position_or_len_push, list_any_at, list_any_none, Any-from_list_any}
-use Rattle.std.proofs.lemmas.List.Sums.{position_or_len_is, fails_before_first, passes_at_first, prefix_len-le-length}
-use Rattle.std.proofs.lemmas.List.Elements.{Contains-get_or, Contains-append_left, Contains-push}
-use Rattle.spd_model.specs.Reduced.{Diagram, leaf, branch, Subtrees, none, also, is_equal, are_equal, node_number, with_node}
+use Rattle.std.proofs.lemmas.Bool.Decides.{Decides-eqb, Decides-ltb, leb_tells, nat_tests}
+use Rattle.std.proofs.lemmas.List.{get_or_default}
+use Rattle.std.proofs.lemmas.List.Folds.{prefix_len-append, position_or_len_push, list_any_at, Any-from_list_any}
+use Rattle.std.proofs.lemmas.List.Sums.{fails_before_first, passes_at_first, prefix_len-le-length}
+use Rattle.spd_model.specs.Reduced.{Diagram, Subtrees, none, also, is_equal, are_equal, node_number, with_node}
 use Rattle.spd_nodes.specs.Trees.{leaf_eq}
 use Rattle.spd_nodes.specs.declared.leaf.Leaf.{Leaf}
 use Rattle.spd_nodes.proofs.TreeLaws.{leaf_eq-refl, leaf_eq-true}
@@ -52,10 +51,10 @@ place ds d = position_or_len (is_equal leaf_eq d) ds
 
 pub place-in : (ds : List D) (d : D) → Contains ds d → place ds d < length ds
 place-in ds d c = elim (leb_tells (length ds) (place ds d)) [
-    | inl out ↦ (let k : c.0 < place ds d = omega (arith, c.1, out.1) in
-        absurd (true≢false (sym (subst (λ (x : D). is_equal leaf_eq d x ≡ true) (sym c.2) (is_equal-refl d)) ∙ fails_before_first (is_equal leaf_eq d) ds c.0 d k)))
-    | inr h ↦ h.1
-  ]
+  | inl out ↦ (let k : c.0 < place ds d = omega (arith, c.1, out.1) in
+      absurd (true≢false (sym (subst (λ (x : D). is_equal leaf_eq d x ≡ true) (sym c.2) (is_equal-refl d)) ∙ fails_before_first (is_equal leaf_eq d) ds c.0 d k)))
+  | inr h ↦ h.1
+]
 
 pub place-is : (ds : List D) (d e : D) → place ds d < length ds → get_or ds (place ds d) e ≡ d
 place-is ds d e h = sym (is_equal-true d (get_or ds (place ds d) e) (passes_at_first (is_equal leaf_eq d) ds e h))
@@ -85,9 +84,9 @@ IsNew ds d = list_any (is_equal leaf_eq d) ds ≡ false
 
 pub place-new : (ds : List D) (d : D) → IsNew ds d → place ds d ≡ length ds
 place-new ds d h = elim (leb_tells (length ds) (place ds d)) [
-    | inl out ↦ (let below = prefix_len-le-length (λ x. not (is_equal leaf_eq d x)) ds in omega (arith, out.1, below))
-    | inr in' ↦ absurd (true≢false (sym (list_any_at (is_equal leaf_eq d) ds (place ds d) d in'.1 (passes_at_first (is_equal leaf_eq d) ds d in'.1)) ∙ h))
-  ]
+  | inl out ↦ (let below = prefix_len-le-length (λ x. not (is_equal leaf_eq d x)) ds in omega (arith, out.1, below))
+  | inr in' ↦ absurd (true≢false (sym (list_any_at (is_equal leaf_eq d) ds (place ds d) d in'.1 (passes_at_first (is_equal leaf_eq d) ds d in'.1)) ∙ h))
+]
 
 pub number-push : (ds : List D) (d : D) → IsNew ds d → node_number leaf_eq (ds ++ d ∷ []) d ≡ length ds
 number-push ds d h =

@@ -1,14 +1,14 @@
 -- A list of nodes and the diagrams that it stands for.
-use Rattle.std.proofs.Common.{◌≡◌, ℕ, zero, suc, ◌+◌, ◌<◌, ◌≤◌, List, [], ◌∷◌, ◌++◌, length, map, get_or, refl, ap, sym, ◌∙◌, subst, arith, append_assoc, append-nil, length-append, pos}
-use Rattle.std.specs.Prelude.{Contains, All}
+use Rattle.std.proofs.Common.{◌≡◌, ℕ, suc, ◌+◌, ◌<◌, List, [], ◌∷◌, ◌++◌, length, map, get_or, refl, ap, sym, ◌∙◌, subst, arith, append_assoc, append-nil, length-append, pos}
+use Rattle.std.specs.Prelude.{All}
 use Rattle.std.proofs.lemmas.List.{get_or_append_left}
 use Rattle.std.proofs.lemmas.List.Elements.{All-head, All-tail}
-use Rattle.spd_model.specs.Reduced.{Diagram, leaf, branch, Subtrees, none, also, subtrees_of, Node, node_number, node_numbers, node_of}
+use Rattle.spd_model.specs.Reduced.{Diagram, Subtrees, none, also, subtrees_of, Node, node_number, node_numbers, node_of}
 use Rattle.spd_nodes.specs.Trees.{leaf_eq}
 use Rattle.spd_nodes.specs.declared.leaf.Leaf.{Leaf}
 use Rattle.spd_nodes.specs.declared.leaf.Leaf.TheVariants.{Num}
 use Rattle.spd_frozen.specs.Frozen.{diagram_of, diagrams_after, diagrams}
-use Rattle.spd_frozen.specs.inner.Unique.{HasKidsBelow, KidsFirst, AreApart, AreAmong, HasSubtreesAmong}
+use Rattle.spd_frozen.specs.inner.Unique.{HasKidsBelow, KidsFirst, AreAmong, HasSubtreesAmong}
 use Rattle.spd_frozen.proofs.Places.{D, number-append, number-is}
 use Rattle.spd_frozen.proofs.Completion.{AreInOrder}
 

@@ -1,6 +1,6 @@
 -- The list of a function's diagram, and its leaf at a state, computed on small tables by hand.
-use Rattle.std.proofs.Common.{◌≡◌, ℕ, List, [], ◌∷◌, ℤ, pos, negsuc, map, refl}
-use Rattle.spd_model.specs.Reduced.{Node, leaf, branch}
+use Rattle.std.proofs.Common.{◌≡◌, ℕ, List, [], ◌∷◌, pos, map, refl}
+use Rattle.spd_model.specs.Reduced.{Node}
 use Rattle.spd_nodes.specs.declared.leaf.Leaf.{Leaf}
 use Rattle.spd_nodes.specs.declared.leaf.Leaf.TheVariants.{Num, Act}
 use Rattle.spd_frozen.specs.Frozen.{frozen_of, entry_at, leaf_at}

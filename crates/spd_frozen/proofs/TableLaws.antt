@@ -1,13 +1,13 @@
 -- The reduced diagram of a table, from the diagrams of its parts.
-use Rattle.std.proofs.Common.{◌≡◌, ℕ, zero, suc, ◌+◌, ◌*◌, ◌-◌, ◌<◌, ◌≤◌, ◌⊎◌, inl, inr, Bool, true, false, ◌&&◌, List, [], ◌∷◌, ◌++◌, length, map, take, drop, get_or, refl, ap, sym, ◌∙◌, subst, arith, add-one, pos, length-append}
+use Rattle.std.proofs.Common.{◌≡◌, ℕ, zero, suc, ◌+◌, ◌*◌, ◌-◌, ◌<◌, ◌≤◌, Bool, true, false, List, [], ◌∷◌, ◌++◌, length, map, drop, get_or, refl, ap, sym, ◌∙◌, subst, arith, add-one, pos}
 use Rattle.std.specs.Prelude.{All, Contains, slice_range}
 use Rattle.std.specs.List.{list_all}
-use Rattle.std.proofs.lemmas.List.{map-append, get_or-take, get_or-drop, length-map, length-take, length-drop}
+use Rattle.std.proofs.lemmas.List.{map-append, get_or-take, get_or-drop, length-take, length-drop}
 use Rattle.std.proofs.Math.Nat.{mul-le-mul_right}
 use Rattle.std.proofs.lemmas.List.Elements.{All-head, All-tail, All-cons, All-nil}
 use Rattle.spd_model.proofs.CallerLemmas.StateOrder.{rank_below}
 use Rattle.spd_model.specs.Numbers.{numbers_below}
-use Rattle.spd_model.specs.Reduced.{Diagram, leaf, branch, Subtrees, none, also, subtrees_of, Node, is_equal, choice_of, reduced_from, nodes_after, nodes_after_all, node_number}
+use Rattle.spd_model.specs.Reduced.{Diagram, subtrees_of, Node, is_equal, choice_of, reduced_from, nodes_after, nodes_after_all, node_number}
 use Rattle.spd_model.specs.States.{state_count, rank, IsState}
 use Rattle.spd_nodes.specs.Trees.{leaf_eq}
 use Rattle.spd_nodes.specs.declared.leaf.Leaf.{Leaf}
@@ -34,17 +34,17 @@ pub reduced-agree : {X : Type 0} (same : X → X → Bool) (var : ℕ) (sizes : 
 reduced-agree same var [] f g h = ap Diagram.leaf (h [] tt)
 reduced-agree same var (size ∷ sizes) f g h =
     ap (choice_of same var) (map-below (λ v. reduced_from same (suc var) sizes (λ s. f (v ∷ s))) (λ v. reduced_from same (suc var) sizes (λ s. g (v ∷ s))) size
-      (λ v q. reduced-agree same (suc var) sizes (λ s. f (v ∷ s)) (λ s. g (v ∷ s)) (λ s k. h (v ∷ s) (q, k))))
+    (λ v q. reduced-agree same (suc var) sizes (λ s. f (v ∷ s)) (λ s. g (v ∷ s)) (λ s k. h (v ∷ s) (q, k))))
 
 -- a part of a table is the table of what follows a value
 pub part-is : (var size : ℕ) (sizes : List ℕ) (leaves : List Leaf) (v block : ℕ) → block ≡ state_count sizes
     → reduced_from leaf_eq (var + 1) sizes (entry_at sizes (slice_range leaves (v * block) ((v + 1) * block))) ≡ subdiagram var size sizes leaves v
 part-is var size sizes leaves v block e =
     rw (add-one var) (reduced-agree leaf_eq (suc var) sizes (entry_at sizes (slice_range leaves (v * block) ((v + 1) * block))) (λ s. entry_at (size ∷ sizes) leaves (v ∷ s))
-      (λ s h. (let below : rank sizes s < (v + 1) * block - v * block = omega (arith, rank_below sizes s h) in
-        get_or-take ((v + 1) * block - v * block) (drop (v * block) leaves) (rank sizes s) (Num (pos 0)) below
-        ∙ get_or-drop (v * block) leaves (rank sizes s) (Num (pos 0))
-        ∙ ap (λ (b : ℕ). get_or leaves (v * b + rank sizes s) (Num (pos 0))) e)))
+    (λ s h. (let below : rank sizes s < (v + 1) * block - v * block = omega (arith, rank_below sizes s h) in
+    get_or-take ((v + 1) * block - v * block) (drop (v * block) leaves) (rank sizes s) (Num (pos 0)) below
+    ∙ get_or-drop (v * block) leaves (rank sizes s) (Num (pos 0))
+    ∙ ap (λ (b : ℕ). get_or leaves (v * b + rank sizes s) (Num (pos 0))) e)))
 
 -- numbers of diagrams that are there are equal where the diagrams are
 pub all-equal : (ds : List D) (d : D) (es : List D) (x : ℕ) → Contains ds d → AreAmong ds (subtrees_of es) → x ≡ node_number leaf_eq ds d
@@ -89,11 +89,10 @@ kids-more sub v before old new kids number d nodes numbers is more last =
     let all : map sub (numbers_below (v + 1)) ≡ ds ++ d ∷ [] = rw add-one (map-append sub (numbers_below v) (v ∷ []) ∙ ap (λ (x : D). ds ++ x ∷ []) (sym is)) in
     let done = nodes_after_all-is before (subtrees_of ds) in
     let among : AreAmong old (subtrees_of ds) = subst (λ (l : List D). AreAmong l (subtrees_of ds)) (sym nodes) done.there in
-    let on : GoesOn old new = subst (λ (l : List D). GoesOn old l) (sym more) (nodes_after-is old d).goes_on in
-    (
+    let on : GoesOn old new = subst (λ (l : List D). GoesOn old l) (sym more) (nodes_after-is old d).goes_on in (
       more ∙ ap (λ (l : List D). nodes_after leaf_eq l d) nodes ∙ sym (nodes_after_all-append before ds (d ∷ [])) ∙ ap (λ (l : List D). nodes_after_all leaf_eq before (subtrees_of l)) (sym all),
       ap (λ (l : List ℕ). l ++ number ∷ []) (numbers ∙ numbers-on old new ds on among) ∙ ap (λ (n : ℕ). map (node_number leaf_eq new) ds ++ n ∷ []) last
-      ∙ sym (map-append (node_number leaf_eq new) ds (d ∷ [])) ∙ ap (map (node_number leaf_eq new)) (sym all),
+          ∙ sym (map-append (node_number leaf_eq new) ds (d ∷ [])) ∙ ap (map (node_number leaf_eq new)) (sym all),
     )
 
 -- numbers of diagrams that are there
@@ -124,10 +123,10 @@ chooses var before all kids (d ∷ ds) closed nodes numbers some =
       some = omega arith;
       below = numbers-below all (d ∷ ds) among;
       equal = λ same. (
-        let rest : list_all (is_equal leaf_eq d) ds ≡ true = all-equal all d ds first among.0 among.1 refl (All-tail (λ k. k ≡ first) first (map (node_number leaf_eq all) ds) same) in
-        let out = left_out-nodes before var d ds closed rest in
-        (nodes ∙ out.1 ∙ ap (nodes_after leaf_eq before) (sym out.0), ap (node_number leaf_eq all) (sym out.0))
-      );
+          let rest : list_all (is_equal leaf_eq d) ds ≡ true = all-equal all d ds first among.0 among.1 refl (All-tail (λ k. k ≡ first) first (map (node_number leaf_eq all) ds) same) in
+          let out = left_out-nodes before var d ds closed rest in
+          (nodes ∙ out.1 ∙ ap (nodes_after leaf_eq before) (sym out.0), ap (node_number leaf_eq all) (sym out.0))
+          );
       differ = λ other. kept-nodes var d ds (not-all (list_all (is_equal leaf_eq d) ds) refl other);
       read = ap (λ (l : List D). Diagram.branch var (subtrees_of l)) (numbers-read all (d ∷ ds) among);
     })

@@ -1,16 +1,16 @@
 -- Diagrams with other leaves: where a change of leaves keeps what is equal, it keeps the list of nodes.
-use Rattle.std.proofs.Common.{◌≡◌, ℕ, zero, suc, ◌<◌, Bool, true, false, not, ◌&&◌, ◌==◌, List, [], ◌∷◌, ◌++◌, length, map, get_or, refl, ap, sym, ◌∙◌, subst, pos, ℤ, cond, if◌then◌else◌, unwrap_or}
+use Rattle.std.proofs.Common.{◌≡◌, ℕ, zero, suc, Bool, true, false, not, ◌&&◌, ◌==◌, List, [], ◌∷◌, ◌++◌, map, get_or, refl, ap, sym, ◌∙◌, subst, pos, ℤ, if◌then◌else◌, unwrap_or}
 use Rattle.std.specs.List.{list_any, list_all, prefix_len, position}
 use Rattle.std.specs.Ordering.{int_eq}
-use Rattle.std.proofs.lemmas.List.{map-append, map-id, length-map, get_or-map}
+use Rattle.std.proofs.lemmas.List.{map-append, length-map}
 use Rattle.std.proofs.lemmas.Simd.{map-map}
 use Rattle.spd_model.specs.Numbers.{numbers_below}
-use Rattle.spd_model.specs.Reduced.{Diagram, leaf, branch, Subtrees, none, also, subtrees_of, Node, is_equal, are_equal, choice_of, reduced, reduced_from, with_node, nodes_after, nodes_after_all, nodes_of, node_number, node_numbers, node_of, listed}
-use Rattle.spd_model.specs.States.{rank, at, states, table_of, IsState}
+use Rattle.spd_model.specs.Reduced.{Diagram, Subtrees, none, also, subtrees_of, Node, is_equal, are_equal, choice_of, reduced, reduced_from, with_node, nodes_after, nodes_after_all, nodes_of, node_number, node_numbers, node_of, listed}
+use Rattle.spd_model.specs.States.{rank, at, table_of, IsState}
 use Rattle.spd_model.proofs.CallerLemmas.StateOrder.{get_or-table_of, get_or-states, rank_below}
 use Rattle.spd_nodes.specs.Trees.{leaf_eq}
 use Rattle.spd_nodes.specs.declared.leaf.Leaf.{Leaf}
-use Rattle.spd_nodes.specs.declared.leaf.Leaf.TheVariants.{Num, Pair, Act}
+use Rattle.spd_nodes.specs.declared.leaf.Leaf.TheVariants.{Num, Act}
 use Rattle.spd_frozen.specs.Frozen.{frozen_of, entry_at}
 use Rattle.spd_frozen.specs.Told.{with_leaf, number_of, action_of}
 use Rattle.spd_frozen.proofs.TableLaws.{reduced-agree}
@@ -70,7 +70,7 @@ module _ {X Y : Type 0} (same : X → X → Bool) (same' : Y → Y → Bool) (ch
   with_node-changed : (ds : List (Diagram X)) (d : Diagram X) → with_node same' (map (changed change) ds) (changed change d) ≡ map (changed change) (with_node same ds d)
   with_node-changed ds d =
       rw (any-map (is_equal same d) (is_equal same' (changed change d)) (changed change) ds (is_equal-changed d), sym (map-append (changed change) ds (d ∷ [])))
-        (if-map (map (changed change)) (list_any (is_equal same d) ds) (list_any (is_equal same d) ds) ds (ds ++ d ∷ []) refl)
+      (if-map (map (changed change)) (list_any (is_equal same d) ds) (list_any (is_equal same d) ds) ds (ds ++ d ∷ []) refl)
 
   mutual
     nodes_after-changed : (before : List (Diagram X)) (d : Diagram X) → nodes_after same' (map (changed change) before) (changed change d) ≡ map (changed change) (nodes_after same before d)
@@ -113,15 +113,15 @@ module _ {X Y : Type 0} (same : X → X → Bool) (same' : Y → Y → Bool) (ch
   choice-changed var [] = refl
   choice-changed var (d ∷ ds) =
       rw (all-map (is_equal same d) (is_equal same' (changed change d)) (changed change) ds (is_equal-changed d), sym (changed_all-list change ds))
-        (if-map (changed change) (list_all (is_equal same d) ds) (list_all (is_equal same d) ds) d (Diagram.branch var (subtrees_of (d ∷ ds))) refl)
+      (if-map (changed change) (list_all (is_equal same d) ds) (list_all (is_equal same d) ds) d (Diagram.branch var (subtrees_of (d ∷ ds))) refl)
 
   reduced-changed : (var : ℕ) (sizes : List ℕ) (f : List ℕ → X) → reduced_from same' var sizes (λ s. change (f s)) ≡ changed change (reduced_from same var sizes f)
   reduced-changed var [] f = refl
   reduced-changed var (size ∷ sizes) f =
       ap (choice_of same' var)
-        (map-same (λ v. reduced_from same' (suc var) sizes (λ s. change (f (v ∷ s)))) (λ v. changed change (reduced_from same (suc var) sizes (λ s. f (v ∷ s))))
-          (λ v. reduced-changed (suc var) sizes (λ s. f (v ∷ s))) (numbers_below size)
-        ∙ sym (map-map (changed change) (λ v. reduced_from same (suc var) sizes (λ s. f (v ∷ s))) (numbers_below size)))
+      (map-same (λ v. reduced_from same' (suc var) sizes (λ s. change (f (v ∷ s)))) (λ v. changed change (reduced_from same (suc var) sizes (λ s. f (v ∷ s))))
+      (λ v. reduced-changed (suc var) sizes (λ s. f (v ∷ s))) (numbers_below size)
+      ∙ sym (map-map (changed change) (λ v. reduced_from same (suc var) sizes (λ s. f (v ∷ s))) (numbers_below size)))
       ∙ choice-changed var (map (λ v. reduced_from same (suc var) sizes (λ s. f (v ∷ s))) (numbers_below size))
 
   list-changed : (sizes : List ℕ) (f : List ℕ → X) → listed same' (reduced same' sizes (λ s. change (f s))) ≡ map (with_leaf change) (listed same (reduced same sizes f))

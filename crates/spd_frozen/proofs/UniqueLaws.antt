@@ -1,15 +1,15 @@
 -- What a look-up of a stored node says of the diagrams that a unique table's nodes stand for.
-use Rattle.std.proofs.Common.{◌≡◌, ℕ, zero, suc, ◌+◌, ◌<◌, ◌≤◌, Bool, true, false, not, List, [], ◌∷◌, ◌++◌, length, map, get_or, refl, ap, sym, ◌∙◌, subst, arith, append_assoc, length-append, pos, cond, ◌&&◌, ◌==◌, if◌then◌else◌, inl, inr}
-use Rattle.std.specs.Prelude.{Contains, All}
+use Rattle.std.proofs.Common.{◌≡◌, ℕ, suc, ◌+◌, ◌<◌, ◌≤◌, Bool, true, false, List, [], ◌∷◌, ◌++◌, length, map, get_or, refl, ap, sym, ◌∙◌, subst, arith, length-append, ◌==◌, if◌then◌else◌, inl, inr}
+use Rattle.std.specs.Prelude.{All}
 use Rattle.std.specs.Bool.{Decides}
 use Rattle.std.specs.List.{list_any, position_or_len}
 use Rattle.std.proofs.lemmas.Bool.{and_parts}
-use Rattle.std.proofs.lemmas.Bool.Decides.{same_from_decides, Decides-eqb, Decides-int_eq, leb_tells}
+use Rattle.std.proofs.lemmas.Bool.Decides.{same_from_decides, Decides-eqb, leb_tells}
 use Rattle.std.proofs.lemmas.List.{get_or_append_left, get_or_push, get_or-map, length-map, map-append}
 use Rattle.std.proofs.lemmas.Simd.{map-map}
 use Rattle.std.proofs.lemmas.List.Folds.{map_fixed}
 use Rattle.std.proofs.lemmas.List.Elements.{All-head, All-tail, All-cons, All-nil, All-weaker, Contains-get_or}
-use Rattle.spd_model.specs.Reduced.{Diagram, leaf, branch, Subtrees, none, also, subtrees_of, Node, is_equal, node_number, node_numbers, node_of, with_node}
+use Rattle.spd_model.specs.Reduced.{subtrees_of, Node, is_equal, node_number, node_numbers, node_of, with_node}
 use Rattle.spd_nodes.specs.Trees.{leaf_eq}
 use Rattle.spd_nodes.specs.declared.leaf.Leaf.{Leaf}
 use Rattle.spd_nodes.specs.declared.leaf.Leaf.TheVariants as L
@@ -20,7 +20,7 @@ use Rattle.spd_frozen.specs.declared.node.Node.{Node as StoredNode}
 use Rattle.spd_frozen.specs.declared.node.Node.TheVariants as Stored
 use Rattle.spd_frozen.specs.contracts.node.NodePartialEq.TheImpl.{eq-value}
 use Rattle.spd_frozen.specs.Nodes.{shown, all_shown}
-use Rattle.spd_frozen.specs.Frozen.{diagram_of, diagrams_after, diagrams}
+use Rattle.spd_frozen.specs.Frozen.{diagram_of, diagrams}
 use Rattle.spd_frozen.specs.inner.Unique.{HasKidsBelow, KidsFirst, AreApart, IsUniqueTable}
 use Rattle.spd_frozen.proofs.Places.{D, is_equal-refl, is_equal-true, number-append, number-push, IsNew, place, place-in, place-new, number-place, there-Contains, with_node-there, with_node-new}
 use Rattle.spd_frozen.proofs.Reading.{nothing, kid_at, diagrams_after-push, length-diagrams_after, diagrams-each}
@@ -28,7 +28,6 @@ use Rattle.spd_frozen.proofs.Reading.{nothing, kid_at, diagrams_after-push, leng
 -- the derived `==`
 abbrev pub stored_eq : StoredNode → StoredNode → Bool
 stored_eq = eq-value.it
-
 
 leaf-alike : (x y : Leaf) → stored_eq (Stored.Leaf x) (Stored.Leaf y) ≡ leaf_eq x y
 leaf-alike (L.Num a) (L.Num b) = refl
@@ -44,20 +43,20 @@ leaf-alike (L.Act a) (L.Act b) = refl
 -- stored nodes are equal where they stand for one node
 shown-alike : (a b : StoredNode) → Decides (stored_eq a b) (shown a ≡ shown b)
 shown-alike (Stored.Leaf x) (Stored.Leaf y) = (
-    λ h. ap Node.leaf (leaf_eq-true x y (sym (leaf-alike x y) ∙ h)),
-    λ p. (let e : x ≡ y = cc in leaf-alike x y ∙ subst (λ (z : Leaf). leaf_eq x z ≡ true) e (leaf_eq-refl x)),
-  )
+  λ h. ap Node.leaf (leaf_eq-true x y (sym (leaf-alike x y) ∙ h)),
+  λ p. (let e : x ≡ y = cc in leaf-alike x y ∙ subst (λ (z : Leaf). leaf_eq x z ≡ true) e (leaf_eq-refl x)),
+)
 shown-alike (Stored.Leaf x) (Stored.Branch w js) = (λ h. cc, λ p. cc)
 shown-alike (Stored.Branch v ks) (Stored.Leaf y) = (λ h. cc, λ p. cc)
 shown-alike (Stored.Branch v ks) (Stored.Branch w js) = (
-    λ h. (let both = and_parts (v == w) (bytes_eq ks.items js.items) h in
+  λ h. (let both = and_parts (v == w) (bytes_eq ks.items js.items) h in
       let a : v ≡ w = (Decides-eqb v w).0 both.0 in
       let b : ks.items ≡ js.items = (bytes_eq-Decides ks.items js.items).0 both.1 in
       λ i. Node.branch (a i) (b i)),
-    λ p. (let a : v ≡ w = cc in
+  λ p. (let a : v ≡ w = cc in
       let b : ks.items ≡ js.items = cc in
       rw ((Decides-eqb v w).1 a, (bytes_eq-Decides ks.items js.items).1 b) refl),
-  )
+)
 
 -- a diagram that was read from a node whose kids are there is written as that node
 kids-back : (ds : List D) (kids : List ℕ) → AreApart ds → All (λ k. k < length ds) kids → node_numbers leaf_eq ds (subtrees_of (map (kid_at ds) kids)) ≡ kids
@@ -74,9 +73,9 @@ node-back ds (Node.branch v kids) apart h = ap (Node.branch v) (kids-back ds kid
 diagrams-alike : (ds : List D) (a b : Node Leaf) → AreApart ds → HasKidsBelow (length ds) a → HasKidsBelow (length ds) b
     → Decides (is_equal leaf_eq (diagram_of ds a) (diagram_of ds b)) (a ≡ b)
 diagrams-alike ds a b apart h k = (
-    λ e. sym (node-back ds a apart h) ∙ ap (node_of leaf_eq ds) (is_equal-true (diagram_of ds a) (diagram_of ds b) e) ∙ node-back ds b apart k,
-    λ p. subst (λ (n : Node Leaf). is_equal leaf_eq (diagram_of ds a) (diagram_of ds n) ≡ true) p (is_equal-refl (diagram_of ds a)),
-  )
+  λ e. sym (node-back ds a apart h) ∙ ap (node_of leaf_eq ds) (is_equal-true (diagram_of ds a) (diagram_of ds b) e) ∙ node-back ds b apart k,
+  λ p. subst (λ (n : Node Leaf). is_equal leaf_eq (diagram_of ds a) (diagram_of ds n) ≡ true) p (is_equal-refl (diagram_of ds a)),
+)
 
 -- kids of the nodes of a list
 HasKidsBelow-more : (m n : ℕ) (node : Node Leaf) → m ≤ n → HasKidsBelow m node → HasKidsBelow n node
@@ -101,11 +100,11 @@ KidsFirst-push m (x ∷ nodes) n h k =
 
 pub AreApart-push : (ds : List D) (d : D) → AreApart ds → IsNew ds d → AreApart (ds ++ d ∷ [])
 AreApart-push ds d apart new k h = elim (leb_tells (length ds) k) [
-    | inl out ↦ (let e : k ≡ length ds = omega (arith, out.1, length-append ds (d ∷ [])) in
-        rw (e, get_or_push ds d nothing (length ds) refl) (number-push ds d new))
-    | inr in' ↦ (let e : kid_at (ds ++ d ∷ []) k ≡ kid_at ds k = get_or_append_left ds (d ∷ []) nothing k in'.1 in
-        rw e (number-append ds (d ∷ []) (kid_at ds k) (Contains-get_or ds k nothing in'.1) ∙ apart k in'.1))
-  ]
+  | inl out ↦ (let e : k ≡ length ds = omega (arith, out.1, length-append ds (d ∷ [])) in
+      rw (e, get_or_push ds d nothing (length ds) refl) (number-push ds d new))
+  | inr in' ↦ (let e : kid_at (ds ++ d ∷ []) k ≡ kid_at ds k = get_or_append_left ds (d ∷ []) nothing k in'.1 in
+      rw e (number-append ds (d ∷ []) (kid_at ds k) (Contains-get_or ds k nothing in'.1) ∙ apart k in'.1))
+]
 
 -- tests that agree find the same
 finds-alike : {X Y : Type 0} (p : X → Bool) (q : Y → Bool) (g : X → Y) (xs : List X) → All (λ x. p x ≡ q (g x)) xs
@@ -132,9 +131,9 @@ looks-up keys key table h =
     let each : diagrams nodes ≡ map (λ k. diagram_of ds (shown k)) keys = diagrams-each nodes table.kids_first ∙ map-map (diagram_of ds) shown keys in
     let all : All (HasKidsBelow (length nodes)) nodes = KidsFirst-all nodes table.kids_first in
     let tests : All (λ k. stored_eq key k ≡ is_equal leaf_eq d (diagram_of ds (shown k))) keys =
-        λ i e q. same_from_decides (stored_eq key (get_or keys i e)) (is_equal leaf_eq d (diagram_of ds (shown (get_or keys i e)))) (shown-alike key (get_or keys i e))
-          (diagrams-alike ds (shown key) (shown (get_or keys i e)) table.apart (below (shown key) h)
-            (below (shown (get_or keys i e)) (subst (HasKidsBelow (length nodes)) (get_or-map shown keys i e (shown e) q) (all i (shown e) (omega (arith, length-map keys shown)))))) in
+    λ i e q. same_from_decides (stored_eq key (get_or keys i e)) (is_equal leaf_eq d (diagram_of ds (shown (get_or keys i e)))) (shown-alike key (get_or keys i e))
+    (diagrams-alike ds (shown key) (shown (get_or keys i e)) table.apart (below (shown key) h)
+    (below (shown (get_or keys i e)) (subst (HasKidsBelow (length nodes)) (get_or-map shown keys i e (shown e) q) (all i (shown e) (omega (arith, length-map keys shown)))))) in
     let finds = finds-alike (stored_eq key) (is_equal leaf_eq d) (λ k. diagram_of ds (shown k)) keys tests in
     record {
       any = finds.0 ∙ ap (list_any (is_equal leaf_eq d)) (sym each);
@@ -188,7 +187,7 @@ nodes-back nodes table =
     let long : length ds ≡ length nodes = length-diagrams_after [] nodes ∙ omega arith in
     let below : All (HasKidsBelow (length nodes)) nodes = KidsFirst-all nodes table.kids_first in
     let fixed : All (λ n. node_of leaf_eq ds (diagram_of ds n) ≡ n) nodes =
-        All-weaker (HasKidsBelow (length nodes)) (λ n. node_of leaf_eq ds (diagram_of ds n) ≡ n) (λ n k. node-back ds n table.apart (subst (λ (m : ℕ). HasKidsBelow m n) (sym long) k)) nodes below in
+    All-weaker (HasKidsBelow (length nodes)) (λ n. node_of leaf_eq ds (diagram_of ds n) ≡ n) (λ n k. node-back ds n table.apart (subst (λ (m : ℕ). HasKidsBelow m n) (sym long) k)) nodes below in
     sym (ap (map (node_of leaf_eq ds)) (diagrams-each nodes table.kids_first) ∙ map-map (node_of leaf_eq ds) (diagram_of ds) nodes ∙ map_fixed (λ n. node_of leaf_eq ds (diagram_of ds n)) nodes fixed)
 
 pub table-none : IsUniqueTable []

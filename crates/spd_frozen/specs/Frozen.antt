@@ -1,6 +1,6 @@
 -- Diagrams as lists of nodes: which lists are diagrams, what they come to at a state, and the list of a function.
 use Rattle.std.specs.Prelude.{◌≡◌, ℕ, zero, suc, ◌-◌, ◌<◌, List, [], ◌∷◌, ◌++◌, length, map, pos, slice_index, slice_index_or, slice_get, Option, Some, None, All}
-use Rattle.spd_model.specs.Reduced.{Diagram, Subtrees, leaf, branch, none, also, subtrees_of, Node, listed, reduced}
+use Rattle.spd_model.specs.Reduced.{Diagram, Subtrees, none, also, subtrees_of, Node, listed, reduced}
 use Rattle.spd_model.specs.States.{rank}
 use Rattle.spd_nodes.specs.Trees.{leaf_eq}
 use Rattle.spd_nodes.specs.declared.leaf.Leaf.{Leaf}

@@ -1,5 +1,5 @@
 -- What an iterate tells, as the definition of the result's text reads it.
-use Rattle.std.specs.Prelude.{ℕ, List, map, ℤ, pos}
+use Rattle.std.specs.Prelude.{ℕ, map, ℤ, pos}
 use Rattle.spd_model.specs.Reduced.{Node}
 use Rattle.spd_model.specs.ResultText.{Iterate as Told}
 use Rattle.spd_nodes.specs.declared.leaf.Leaf.{Leaf}

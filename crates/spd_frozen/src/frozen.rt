@@ -1,3 +1,5 @@
+//! A decision diagram as a list of nodes.
+
 ghost use Rattle.std.specs.Prelude.{◌≡◌, All};
 ghost use Rattle.spd_frozen.specs.Nodes.{all_shown};
 ghost use Rattle.spd_frozen.specs.Frozen.{IsFrozen, HasKid, leaf_at};

@@ -1,3 +1,5 @@
+//! What value iteration found at a turn.
+
 use crate::Frozen;
 use spd_model::{Side, State};
 

@@ -12,9 +12,8 @@ mod unique;
 pub use frozen::Frozen;
 pub use iterate::{Iterate, Residual};
 pub use node::Node;
-pub use table::of_table;
-
 use std::alloc::AllocError;
+pub use table::of_table;
 
 /// Memory was wanted and not found.
 pub type Memory = AllocError;

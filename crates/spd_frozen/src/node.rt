@@ -1,3 +1,5 @@
+//! The nodes of a diagram that is written as a list.
+
 use spd_nodes::Leaf;
 
 /// A node of a diagram that is written as a list. Nodes are numbered from 0 in the order of the list.

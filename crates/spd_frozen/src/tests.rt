@@ -1,3 +1,5 @@
+//! The reduced diagram of a small table, and its leaf at a state.
+
 ghost use Rattle.std.specs.Prelude.{◌≡◌, [], ◌∷◌, IfOk};
 ghost use Rattle.spd_model.specs.States.{sizes};
 

@@ -1,3 +1,5 @@
+//! The unique table of a list of nodes.
+
 ghost use Rattle.std.specs.Prelude.{◌≡◌, ◌<◌, [], length, map, IfOk, All};
 ghost use Rattle.spd_model.specs.Reduced.{Diagram, Node as N, node_of};
 ghost use Rattle.spd_nodes.specs.Trees.{leaf_eq};

@@ -1,33 +1,33 @@
 -- How tokens grow from the right.
-use Rattle.std.proofs.Common.{◌≡◌, ℕ, suc, ◌+◌, ◌-◌, ◌≤◌, ◌<◌, Bool, true, false, cond, eqb, List, [], ◌∷◌, ◌++◌, length, get_or, take, drop, Option, Some, None, refl, sym, ap, ◌∙◌, arith, append_assoc}
+use Rattle.std.proofs.Common.{◌≡◌, ℕ, suc, ◌+◌, ◌-◌, ◌≤◌, ◌<◌, Bool, true, false, cond, List, [], ◌∷◌, ◌++◌, length, get_or, take, drop, Option, Some, None, refl, sym, ap, ◌∙◌, arith, append_assoc}
 use Rattle.std.specs.Prelude.{◌==◌, ◌&&◌, is_some}
 use Rattle.std.proofs.lemmas.Grind.{common_steps}
 use Rattle.spd_lex.specs.declared.token.Token.{Token}
 use Rattle.spd_lex.specs.declared.token.Kind.{Kind}
-use Rattle.spd_lex.specs.declared.token.Kind.TheVariants.{Open, Close, OpenSum, CloseSum, Word}
-use Rattle.spd_lex.specs.Tokens.{AreApart, tokens_of, is_word, joined, with_word, single, with_bracket, with_byte, bracket_of, is_blank, tokens_from, blanked, in_comment, bad_from, is_bad}
+use Rattle.spd_lex.specs.declared.token.Kind.TheVariants.{Word}
+use Rattle.spd_lex.specs.Tokens.{AreApart, tokens_of, is_word, extended, with_word, with_bracket, with_byte, bracket_of, is_blank, tokens_from, blanked, in_comment, bad_from, is_bad}
 use Rattle.spd_lex.specs.Lexing.{opened, IsApart}
 
 pub with_word-apart : (from at : ℕ) (ts : List Token) → IsApart at ts → with_word from at ts ≡ record { kind = Word; from = from; to = at } ∷ ts
 unfolding with_word
 with_word-apart from at [] apart = refl
-with_word-apart from at (t ∷ ts) apart = ap (λ (b : Bool). joined b from at t ts) apart
+with_word-apart from at (t ∷ ts) apart = ap (λ (b : Bool). extended b from at t ts) apart
 
 same : (n : ℕ) → (n == n) ≡ true
 same n = grind arith
 
-pub with_word-joined : (from at : ℕ) (ts : List Token) → with_word from at (with_word at (at + 1) ts) ≡ with_word from (at + 1) ts
+pub with_word-extended : (from at : ℕ) (ts : List Token) → with_word from at (with_word at (at + 1) ts) ≡ with_word from (at + 1) ts
 unfolding with_word
-with_word-joined from at [] = ap (λ (b : Bool). joined b from at (record { kind = Word; from = at; to = at + 1 }) []) (same at)
-with_word-joined from at (t ∷ ts) = by_case (is_word t.kind && t.from == at + 1) refl
+with_word-extended from at [] = ap (λ (b : Bool). extended b from at (record { kind = Word; from = at; to = at + 1 }) []) (same at)
+with_word-extended from at (t ∷ ts) = by_case (is_word t.kind && t.from == at + 1) refl
   where
-    by_case : (b : Bool) → (is_word t.kind && t.from == at + 1) ≡ b → with_word from at (joined b at (at + 1) t ts) ≡ joined b from (at + 1) t ts
+    by_case : (b : Bool) → (is_word t.kind && t.from == at + 1) ≡ b → with_word from at (extended b at (at + 1) t ts) ≡ extended b from (at + 1) t ts
     by_case true is = word (is_word t.kind) refl
       where
-        word : (w : Bool) → is_word t.kind ≡ w → joined (is_word t.kind && at == at) from at (record t { from = at }) ts ≡ record t { from = from } ∷ ts
-        word true w = ap (λ (b : Bool). joined (b && at == at) from at (record t { from = at }) ts) w ∙ ap (λ (b : Bool). joined b from at (record t { from = at }) ts) (same at)
+        word : (w : Bool) → is_word t.kind ≡ w → extended (is_word t.kind && at == at) from at (record t { from = at }) ts ≡ record t { from = from } ∷ ts
+        word true w = ap (λ (b : Bool). extended (b && at == at) from at (record t { from = at }) ts) w ∙ ap (λ (b : Bool). extended b from at (record t { from = at }) ts) (same at)
         word false w = let no : (is_word t.kind && t.from == at + 1) ≡ false = ap (λ (b : Bool). b && t.from == at + 1) w in absurd cc
-    by_case false is = ap (λ (b : Bool). joined b from at (record { kind = Word; from = at; to = at + 1 }) (t ∷ ts)) (same at)
+    by_case false is = ap (λ (b : Bool). extended b from at (record { kind = Word; from = at; to = at + 1 }) (t ∷ ts)) (same at)
 
 -- ---- tokens lie apart
 
@@ -41,7 +41,7 @@ unfolding with_word
 apart_word at most [] apart h = (omega arith, omega arith, h, tt)
 apart_word at most (t ∷ ts) apart h = by_case (is_word t.kind && t.from == at + 1)
   where
-    by_case : (b : Bool) → AreApart at most (joined b at (at + 1) t ts)
+    by_case : (b : Bool) → AreApart at most (extended b at (at + 1) t ts)
     by_case true = (omega arith, omega (arith, apart.0, apart.1), apart.2, apart.3)
     by_case false = (omega arith, omega arith, h, apart)
 
@@ -81,36 +81,13 @@ apart at bytes = none_here (tokens_from (at + 1) bytes) (apart_from (at + 1) (at
         by_case true = let low : at + 1 ≤ t.from = behind.0 in grind arith
         by_case false = refl
 
--- a bracket is no word
-pub apart_single : (kind : Kind) (at : ℕ) (ts : List Token) → is_word kind ≡ false → IsApart at (single kind at ∷ ts)
-apart_single kind at ts other = ap (λ (b : Bool). b && at == at) other
-
-pub bracket_no_word : (byte : ℕ) (kind : Kind) → bracket_of byte ≡ Some kind → is_word kind ≡ false
-bracket_no_word byte kind is = first (eqb byte 40) refl
-  where
-    rest4 : (b : Bool) → cond b (Some CloseSum) None ≡ Some kind → is_word kind ≡ false
-    rest4 true e = let k : CloseSum ≡ kind = cc in ap is_word (sym k)
-    rest4 false e = absurd cc
-
-    rest3 : (b : Bool) → cond b (Some OpenSum) (cond (eqb byte 93) (Some CloseSum) None) ≡ Some kind → is_word kind ≡ false
-    rest3 true e = let k : OpenSum ≡ kind = cc in ap is_word (sym k)
-    rest3 false e = rest4 (eqb byte 93) e
-
-    rest2 : (b : Bool) → cond b (Some Close) (cond (eqb byte 91) (Some OpenSum) (cond (eqb byte 93) (Some CloseSum) None)) ≡ Some kind → is_word kind ≡ false
-    rest2 true e = let k : Close ≡ kind = cc in ap is_word (sym k)
-    rest2 false e = rest3 (eqb byte 91) e
-
-    first : (b : Bool) → eqb byte 40 ≡ b → is_word kind ≡ false
-    first true e = let k : Open ≡ kind = (let s : bracket_of byte ≡ Some Open = ap (λ (b : Bool). cond b (Some Open) (cond (eqb byte 41) (Some Close) (cond (eqb byte 91) (Some OpenSum) (cond (eqb byte 93) (Some CloseSum) None)))) e in cc) in ap is_word (sym k)
-    first false e = rest2 (eqb byte 41) (sym (ap (λ (b : Bool). cond b (Some Open) (cond (eqb byte 41) (Some Close) (cond (eqb byte 91) (Some OpenSum) (cond (eqb byte 93) (Some CloseSum) None)))) e) ∙ is)
-
 pub begin_word-none : (at : ℕ) (ts : List Token) (o : Option ℕ) → is_some o ≡ false → opened (Some at) (at + 1) ts ≡ opened o at (with_word at (at + 1) ts)
 begin_word-none at ts None e = refl
 begin_word-none at ts (Some from) e = absurd cc
 
 pub begin_word-some : (at : ℕ) (ts : List Token) (o : Option ℕ) → is_some o ≡ true → opened o (at + 1) ts ≡ opened o at (with_word at (at + 1) ts)
 begin_word-some at ts None e = absurd cc
-begin_word-some at ts (Some from) e = sym (with_word-joined from at ts)
+begin_word-some at ts (Some from) e = sym (with_word-extended from at ts)
 
 pub end_word-some : (old new ts : List Token) (o : Option ℕ) (from at : ℕ) → o ≡ Some from → new ≡ old ++ record { kind = Word; from = from; to = at } ∷ [] → IsApart at ts
     → new ++ ts ≡ old ++ opened o at ts

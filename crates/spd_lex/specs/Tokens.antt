@@ -41,14 +41,14 @@ is_word CloseSum = false
 is_word Word = true
 
 -- the first token goes back to `from`, or a word of its own stands before it
-abbrev pub joined : Bool → ℕ → ℕ → Token → List Token → List Token
-joined true from to token tokens = record token { from = from } ∷ tokens
-joined false from to token tokens = record { kind = Word; from = from; to = to } ∷ token ∷ tokens
+abbrev pub extended : Bool → ℕ → ℕ → Token → List Token → List Token
+extended true from to token tokens = record token { from = from } ∷ tokens
+extended false from to token tokens = record { kind = Word; from = from; to = to } ∷ token ∷ tokens
 
 -- the tokens where bytes of a word stand before others, whose tokens are known: a word that goes on behind them begins with them
 unfoldable pub with_word : ℕ → ℕ → List Token → List Token
 with_word from to [] = record { kind = Word; from = from; to = to } ∷ []
-with_word from to (token ∷ tokens) = joined (is_word token.kind && token.from == to) from to token tokens
+with_word from to (token ∷ tokens) = extended (is_word token.kind && token.from == to) from to token tokens
 
 -- a token of one byte
 abbrev pub single : Kind → ℕ → Token

@@ -293,6 +293,7 @@ key-shown sizes old new key layout is is' fit good keeps r (inl (e, same, found)
           makes = makes-found sizes old new is is' fit key good e found;
           fault = tt;
         };
+        full = tt;
         keeps = λ i. record { table = keeps.table i; stands = keeps.stands i; splits = keeps.splits i };
       }),
       fit',
@@ -307,6 +308,7 @@ key-shown sizes old new key layout is is' fit good keeps r (inr (same, lacks)) =
           makes = makes-full sizes old new key _ lacks;
           fault = lacks-full sizes old new is is' fit key good lacks;
         };
+        full = refl;
         keeps = λ i. record { table = keeps.table i; stands = keeps.stands i; splits = keeps.splits i };
       }),
       fit',

@@ -1,5 +1,5 @@
 -- What contracts see of a forest over a table that threads share.
-use Rattle.std.specs.Prelude.{◌≡◌, ℕ, ◌+◌, ◌-◌, false, true, List, [], Result}
+use Rattle.std.specs.Prelude.{◌≡◌, ℕ, ◌+◌, ◌-◌, false, true, List, [], Result, IfErr}
 use Rattle.std.proofs.Common.{suc}
 use Rattle.spd_cons_core.specs.declared.key.Entry.{Entry}
 use Rattle.spd_cons_core.specs.declared.key.Key.{Key}
@@ -7,6 +7,7 @@ use Rattle.spd_cons.specs.Values.{SeatValue, TableValue, IsSeatOf}
 use Rattle.spd_nodes.specs.Levels.{levels_of, slots}
 use Rattle.spd_nodes.specs.Limits.{IsLayout}
 use Rattle.spd_nodes.specs.declared.forest.StoreFault.{StoreFault}
+use Rattle.spd_nodes.specs.declared.forest.StoreFault.TheVariants as F
 use Rattle.spd_nodes.specs.Trees.{Tree, IsNodeOf}
 use Rattle.spd_nodes.specs.Shown.{Shown, Grows, MakesOnly, MakesTree}
 use Rattle.spd_nodes.specs.KnownTrees.{AllFitIn, key_tree, shown_by}
@@ -50,9 +51,10 @@ no_standing = record {
 abbrev pub tree_in_grove : GroveValue → Key → Tree
 tree_in_grove g key = key_tree (suc (levels_of (slots g.sizes))) g.seat.mind.knows key
 
--- a call that looks for a key's tree and makes it where it isn't known
+-- a call that looks for a key's tree and makes it where it isn't known; it never wants memory
 pub record FindsKey (old new : GroveValue) (key : Key) (result : Result Entry StoreFault) : Type 0 where
   pub made : MakesTree (shown_of old) (shown_of new) (tree_in_grove old key) result
+  pub full : IfErr result (λ e. e ≡ F.Full)
   pub keeps : standing_of new ≡ standing_of old
 
 -- All that a forest knew is known with its tree, whatever is published: so much is left to a table of answers.

@@ -1,10 +1,10 @@
 //! The forest over a table that threads share.
 
-ghost use Rattle.std.specs.Prelude.{◌≡◌, ◌+◌, ◌<◌, length};
+ghost use Rattle.std.specs.Prelude.{◌≡◌, ◌+◌, ◌<◌, [], ◌∷◌, IfOk, IfErr, true, length};
 ghost use Rattle.spd_cons.specs.Values.{IsSeatOf};
-ghost use Rattle.spd_nodes.specs.Levels.{slots};
-ghost use Rattle.spd_nodes.specs.Trees.{Ends, join};
-ghost use Rattle.spd_nodes.specs.Shown.{IsSound, MakesTree};
+ghost use Rattle.spd_nodes.specs.Levels.{levels_of, slots};
+ghost use Rattle.spd_nodes.specs.Trees.{Ends, join, CanTest};
+ghost use Rattle.spd_nodes.specs.Shown.{IsSound, Grows, MakesOnly, KnowsAs, Faults, MakesTree, test_steps};
 ghost use Rattle.spd_nodes.specs.KnownTrees.{AllFitIn, CanBeMade};
 ghost use Rattle.spd_nodes.specs.Grove.{shown_of, standing_of, FindsKey, Splits, Joins};
 
@@ -123,6 +123,7 @@ impl<'a> Grove<'a> {
     /// The entry of a leaf, in one step.
     fn find_leaf<L: Ledger>(&mut self, leaf: Leaf, steps: &mut Steps<L>) -> Result<Ref, StoreFault>
         ensures made { MakesTree (shown_of self.old) (shown_of self.new) (Ends leaf) result }
+        ensures full { IfErr result (λ e. e ≡ StoreFault.Full) }
         ensures keeps { standing_of self.new ≡ standing_of self.old }
         ensures cost { steps.new ≡ steps.old + 1 }
     {
@@ -153,17 +154,42 @@ impl<'a> Forest for Grove<'a> {
         self.layout
     }
 
-    fn leaf<L: Ledger>(&mut self, leaf: Leaf, steps: &mut Steps<L>) -> Result<Ref, StoreFault> {
+    /// It never answers Memory.
+    fn leaf<L: Ledger>(&mut self, leaf: Leaf, steps: &mut Steps<L>) -> Result<Ref, StoreFault>
+        ensures sound { IsSound (shown_of self.new) }
+        ensures grows { Grows (shown_of self.old) (shown_of self.new) }
+        ensures keeps { standing_of self.new ≡ standing_of self.old }
+        ensures ok { IfOk result (λ r. KnowsAs (shown_of self.new) r (Ends leaf)) }
+        ensures makes { MakesOnly (shown_of self.old) (shown_of self.new) (Ends leaf ∷ []) }
+        ensures fault { IfErr result (λ e. Faults e (shown_of self.new) (Ends leaf ∷ [])) }
+        ensures cost { steps.new ≡ steps.old + 1 }
+        ensures full { IfErr result (λ e. e ≡ StoreFault.Full) }
+    {
         self.find_leaf(leaf, steps)
     }
 
+    /// It never answers Memory.
     fn test<L: Ledger>(
         &mut self,
         level: Level,
         yes: Ref,
         no: Ref,
         steps: &mut Steps<L>,
-    ) -> Result<Ref, StoreFault> {
+    ) -> Result<Ref, StoreFault>
+        requires level { level.0 < levels_of (slots self.old.sizes) }
+        requires yes { (shown_of self.old).knows yes ≡ true }
+        requires no { (shown_of self.old).knows no ≡ true }
+        requires fits { CanTest (slots self.old.sizes) level.0 ((shown_of self.old).tree yes) ((shown_of self.old).tree no) }
+
+        ensures sound { IsSound (shown_of self.new) }
+        ensures grows { Grows (shown_of self.old) (shown_of self.new) }
+        ensures keeps { standing_of self.new ≡ standing_of self.old }
+        ensures ok { IfOk result (λ r. KnowsAs (shown_of self.new) r (join level.0 ((shown_of self.old).tree yes) ((shown_of self.old).tree no))) }
+        ensures makes { MakesOnly (shown_of self.old) (shown_of self.new) (join level.0 ((shown_of self.old).tree yes) ((shown_of self.old).tree no) ∷ []) }
+        ensures fault { IfErr result (λ e. Faults e (shown_of self.new) (join level.0 ((shown_of self.old).tree yes) ((shown_of self.old).tree no) ∷ [])) }
+        ensures cost { steps.new ≡ steps.old + test_steps yes no }
+        ensures full { IfErr result (λ e. e ≡ StoreFault.Full) }
+    {
         self.facts();
         if yes.0 == no.0 {
             return Ok(no);

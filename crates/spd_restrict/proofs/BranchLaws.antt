@@ -1,5 +1,5 @@
 -- A branch of a variable is made of one kid after the other.
-use Rattle.std.proofs.Common.{◌≡◌, ℕ, zero, suc, ◌+◌, ◌-◌, ◌*◌, ◌<◌, ◌≤◌, inl, inr, ◌==◌, Bool, true, false, cond, List, [], ◌∷◌, length, get_or, map, refl, sym, ◌∙◌, ap, subst, arith, Result, Ok, Err, IfOk, IfErr, All}
+use Rattle.std.proofs.Common.{◌≡◌, ℕ, zero, suc, ◌+◌, ◌-◌, ◌*◌, ◌<◌, inl, inr, ◌==◌, Bool, true, false, cond, List, [], ◌∷◌, length, get_or, map, refl, sym, ◌∙◌, ap, subst, arith, Result, Ok, All}
 use Rattle.std.specs.Prelude.{nat_lt}
 use Rattle.std.proofs.lemmas.Bool.Decides.{Decides-eqb, nat_tests}
 use Rattle.std.proofs.lemmas.List.{get_or-map, length-map}
@@ -11,8 +11,8 @@ use Rattle.spd_nodes.specs.declared.forest.StoreFault.{StoreFault}
 use Rattle.spd_nodes.specs.Levels.{slots, slot_of, IsSlot}
 use Rattle.spd_nodes.specs.Trees.{IsNode, IsFrom, IsReduced}
 use Rattle.spd_model.specs.States.{IsState}
-use Rattle.spd_nodes.specs.States.{Function, point, test_tree, test_trees, function_of, Agree}
-use Rattle.spd_nodes.specs.Shown.{Shown, IsSound, IsWhole, StandsFor, MakesAmong, MakesDiagram, meaning}
+use Rattle.spd_nodes.specs.States.{Function, point, test_tree, test_trees, Agree}
+use Rattle.spd_nodes.specs.Shown.{Shown, IsSound, IsWhole, MakesAmong, MakesDiagram, meaning}
 use Rattle.spd_nodes.proofs.CallerLemmas.{IsState-point, IsTreeFor, Within, among-agrees, among-then, diagram-agrees, makes_among-known, stands-for}
 use Rattle.spd_restrict.specs.Chosen.{variable_value, function_at, chosen, chosen_from, chosen_below, branch_functions}
 use Rattle.spd_restrict.specs.Replaced.{replaced_at, replaced, MayReplace}

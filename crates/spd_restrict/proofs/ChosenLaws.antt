@@ -114,13 +114,6 @@ module _ (n : ℕ) (l : Level) (s : Shown) (o : IsSound s) (f g : Node) (kf : Is
         right_no = next_no-is s g.root g.name l kg.known kg.root;
       }
 
-  -- the value's own test
-  pub can-own : CanTest all l.0 (s.tree fy) (s.tree gn)
-  can-own = rw (at-test.left_yes.tree, at-test.right_no.tree) (record { yes_fits = at-test.left.yes_from; no_fits = at-test.right.no_fits })
-
-  pub own-made : n ≡ 0 → (t : Shown) (r : Result Entry StoreFault) → MakesTree s t (join l.0 (s.tree fy) (s.tree gn)) r → MakesTree s t Whole r
-  own-made e t r m = rw e (rw (at-test.left_yes.tree, at-test.right_no.tree) at m)
-
   -- one of the tests before it, and the rest
   module _ (m : ℕ) (e : n ≡ suc m) where
     abbrev pub Rest : Tree

@@ -1,12 +1,12 @@
 -- A tree with one slot at a value has the tree's values there, and is reduced.
-use Rattle.std.proofs.Common.{◌≡◌, ℕ, ◌+◌, ◌-◌, ◌<◌, ◌≤◌, ◌≢◌, ◌⊎◌, inl, inr, ◌==◌, Bool, true, false, cond, List, set, refl, sym, ◌∙◌, subst, arith, true≢false}
+use Rattle.std.proofs.Common.{◌≡◌, ℕ, ◌+◌, ◌-◌, ◌<◌, ◌≤◌, ◌≢◌, inl, inr, ◌==◌, Bool, true, false, cond, List, set, refl, sym, ◌∙◌, subst, arith, true≢false}
 use Rattle.std.specs.Prelude.{nat_lt}
 use Rattle.std.proofs.lemmas.Bool.{ne_eqb}
 use Rattle.std.proofs.lemmas.Bool.Decides.{Decides-eqb, nat_tests}
 use Rattle.spd_model.specs.States.{IsState}
-use Rattle.spd_nodes.specs.Levels.{levels_of, passes, after, IsSlot}
+use Rattle.spd_nodes.specs.Levels.{passes, after, IsSlot}
 use Rattle.spd_nodes.specs.Trees.{Tree, Ends, Tests, value_at, IsFrom, IsAt, IsReduced, CanTest, join, IsAtOrPast}
-use Rattle.spd_nodes.proofs.CallerLemmas.{Parts, parts, after0, first0, after-next, level_of-reduced, Joins, joins, IsFrom-at, IsFrom-lower, after-in, after-before, first-in, passes-in, passes-before, passes-past, after_above, value_at-join}
+use Rattle.spd_nodes.proofs.CallerLemmas.{Parts, parts, first0, after-next, Joins, joins, IsFrom-at, IsFrom-lower, after-in, after-before, first-in, passes-in, passes-before, passes-past, after_above, value_at-join}
 use Rattle.spd_restrict.specs.Restricted.{cofactored, IsUpTo}
 
 -- the root isn't below a level

@@ -1,13 +1,12 @@
 -- How a cofactor goes on from an entry, and what it makes of a whole one.
-use Rattle.std.proofs.Common.{◌≡◌, ℕ, zero, suc, ◌+◌, ◌-◌, ◌*◌, ◌<◌, ◌≤◌, ◌≢◌, inl, inr, ◌==◌, Bool, true, false, List, [], ◌∷◌, length, get_or, set, refl, ◌∙◌, ap, subst, arith}
+use Rattle.std.proofs.Common.{◌≡◌, ℕ, zero, suc, ◌+◌, ◌*◌, ◌<◌, ◌≤◌, ◌≢◌, inl, inr, ◌==◌, Bool, true, false, List, [], ◌∷◌, length, set, refl, ◌∙◌, ap, subst, arith}
 use Rattle.std.specs.Prelude.{nat_lt}
-use Rattle.std.proofs.lemmas.Bool.Decides.{Decides-eqb, nat_tests}
+use Rattle.std.proofs.lemmas.Bool.Decides.{nat_tests}
 use Rattle.spd_cons_core.specs.declared.key.Entry.{Entry}
-use Rattle.spd_nodes.specs.declared.leaf.Leaf.{Leaf}
-use Rattle.spd_nodes.specs.Levels.{slots, slot_of, level_at, IsSlot}
-use Rattle.spd_nodes.specs.Trees.{Tree, Ends, Tests, value_at, IsFrom, IsReduced}
+use Rattle.spd_nodes.specs.Levels.{slots, slot_of, IsSlot}
+use Rattle.spd_nodes.specs.Trees.{Tree, Tests, value_at, IsReduced}
 use Rattle.spd_model.specs.States.{IsState}
-use Rattle.spd_nodes.specs.States.{point, function_of, Agree}
+use Rattle.spd_nodes.specs.States.{point}
 use Rattle.spd_nodes.specs.Shown.{Shown, IsSound, IsWhole, meaning}
 use Rattle.spd_apply.specs.declared.rule.Below.TheVariants as B
 use Rattle.spd_apply.specs.Rules.{Making, MayMeet, PlansBelow, PlansTest}

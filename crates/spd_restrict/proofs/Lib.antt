@@ -2,6 +2,7 @@ pub mod BranchLaws
 pub mod ChosenLaws
 pub mod CofactorLaws
 pub mod FixedLaws
+pub mod PlainLaws
 pub mod PrimedLaws
 pub mod ReplacedLaws
 mod Rows

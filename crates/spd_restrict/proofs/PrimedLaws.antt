@@ -3,14 +3,13 @@ use Rattle.std.proofs.Common.{◌≡◌, ℕ, zero, suc, ◌+◌, ◌-◌, ◌*�
 use Rattle.std.specs.Prelude.{nat_lt}
 use Rattle.std.proofs.lemmas.Bool.Decides.{nat_tests}
 use Rattle.spd_cons_core.specs.declared.key.Entry.{Entry}
-use Rattle.spd_nodes.specs.declared.leaf.Leaf.{Leaf}
 use Rattle.spd_nodes.specs.Levels.{levels_of, passes, after, is_first, slots, level_at, IsTestOf}
 use Rattle.spd_nodes.specs.Trees.{Tree, Ends, Tests, value_at, IsFrom, IsAt, IsReduced, CanTest, join, IsAtOrPast}
 use Rattle.spd_model.specs.States.{IsState}
-use Rattle.spd_nodes.specs.States.{point, function_of, Agree}
+use Rattle.spd_nodes.specs.States.{point}
 use Rattle.spd_nodes.specs.Shown.{Shown, IsSound, IsWhole, meaning}
 use Rattle.spd_apply.specs.declared.rule.Below.TheVariants as B
-use Rattle.spd_apply.specs.Rules.{Making, PlansBelow, PlansTest}
+use Rattle.spd_apply.specs.Rules.{Making, PlansTest}
 use Rattle.spd_nodes.proofs.CallerLemmas.{IsTreeFor, first0, after-next, Joins, joins, IsFrom-at, IsFrom-lower, Parts, parts, after_above, level-plain, level-primed, rank-view, value_at-join}
 use Rattle.spd_restrict.specs.Primed.{primed, is_plain_level, primed_level, TestsNoPrimed, primed_tree, MayPrime}
 

@@ -1,5 +1,7 @@
 -- A function of the next state in place of the present one, and the tests of its tree.
 use Rattle.std.specs.Prelude.{◌≡◌, ℕ, ◌+◌, ◌-◌, ◌*◌, Bool, true, false, cond, nat_lt, List, [], ◌∷◌}
+use Rattle.spd_cons_core.specs.declared.key.Entry.{Entry}
+use Rattle.spd_nodes.specs.Shown.{Shown}
 use Rattle.spd_nodes.specs.Trees.{Tree, Ends, Tests, join}
 use Rattle.spd_nodes.specs.States.{Function}
 
@@ -21,6 +23,10 @@ primed_level (d ∷ ds) l = cond (nat_lt l (2 * (d - 1))) (l - (d - 1)) (2 * (d 
 abbrev pub TestsNoPrimed : List ℕ → Tree → Type 0
 TestsNoPrimed sizes (Ends a) = Unit {0}
 TestsNoPrimed sizes (Tests l y n) = (is_plain_level sizes l ≡ true) × TestsNoPrimed sizes y × TestsNoPrimed sizes n
+
+-- where an entry is a test, it tests a plain value
+pub record IsPlainRoot (s : Shown) (q : Entry) : Type 0 where
+  pub plain : (l : ℕ) (y n : Tree) → s.tree q ≡ Tests l y n → is_plain_level s.sizes l ≡ true
 
 -- a tree with each plain test primed
 abbrev pub primed_tree : List ℕ → Tree → Tree

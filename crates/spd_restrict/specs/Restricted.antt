@@ -1,5 +1,5 @@
 -- A function with one value held fixed, and a tree with one slot at a value.
-use Rattle.std.specs.Prelude.{◌≡◌, ℕ, ◌+◌, ◌-◌, ◌<◌, ◌≤◌, ◌==◌, Bool, cond, nat_lt, List, slice_set, slice_index, length, take}
+use Rattle.std.specs.Prelude.{ℕ, ◌+◌, ◌<◌, ◌≤◌, ◌==◌, Bool, cond, nat_lt, List, slice_set}
 use Rattle.spd_nodes.specs.Levels.{slots, IsSlot}
 use Rattle.spd_nodes.specs.Trees.{Tree, Ends, Tests, join}
 use Rattle.spd_nodes.specs.States.{Function}

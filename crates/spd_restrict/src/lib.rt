@@ -4,10 +4,12 @@
 pub mod branch;
 pub mod fixed;
 pub mod next;
+pub mod plain;
 
 pub use branch::choose;
 pub use fixed::cofactor;
 pub use next::prime;
+pub use plain::is_plain;
 
 #[cfg(test)]
 mod tests;

@@ -10,7 +10,8 @@ discount 0.5
 tolerance 0.1
 ";
 
-pub const KEEP_RESULT: &[u8] = b"spd result 1
+pub const KEEP_RESULT: &[u8] = b"spd result 2
+model a1e107272379ab8c6bebf4bd78c0c87b8cbb9f360f3561340e076f810c9ad9a3
 status done
 turn 5
 residual 0.015625000
@@ -35,7 +36,8 @@ discount 0
 tolerance 0.1
 ";
 
-pub const KEEP_AT_ONCE_RESULT: &[u8] = b"spd result 1
+pub const KEEP_AT_ONCE_RESULT: &[u8] = b"spd result 2
+model 1d1500d0f04a1ab74dc99ba8c758fd9cf13483061dff2195035b314a3e73b9d8
 status done
 turn 0
 residual 0.000000000
@@ -60,7 +62,8 @@ discount 0.5
 tolerance 0
 ";
 
-pub const KEEP_EXACTLY_RESULT: &[u8] = b"spd result 1
+pub const KEEP_EXACTLY_RESULT: &[u8] = b"spd result 2
+model 0bdb5fc78eebb1dcaa096aac69b292654a6cdd05fcc3f2ba1abe9eff7913f84b
 status limit
 turn 10000
 residual 0.000000001
@@ -88,6 +91,22 @@ discount 0.5
 tolerance 0.1
 ";
 
+pub const KEEP_OR_HOLD_RESULT: &[u8] = b"spd result 2
+model 753f1aa3e68a18f983b8c59843746cb5122a3bde373ee1504106c8213edd9c54
+status done
+turn 5
+residual 0.015625000
+at x=yes above stay
+error 0.031250000
+value 3
+0 leaf 1.968750000
+1 leaf 0.000000000
+2 branch x 0 1
+policy 1
+0 leaf stay
+end
+";
+
 /// A die that is thrown anew in each step.
 pub const DIE: &[u8] = b"(variables (die one two three))
 action mix
@@ -98,7 +117,8 @@ discount 0.5
 tolerance 0.1
 ";
 
-pub const DIE_RESULT: &[u8] = b"spd result 1
+pub const DIE_RESULT: &[u8] = b"spd result 2
+model 8558ae0b435bf441eebbc1c6ed5323637caddf6ad9f9c1022bd1263ff6cf5bf5
 status done
 turn 3
 residual 0.020833334

@@ -1,6 +1,6 @@
 //! Files at their limits, and one step past them.
-use crate::command::{Answer, solve};
-use std::process::Abort;
+use crate::command::solve;
+use crate::refused::{assert_refused, assert_solved};
 use std::test::Fail;
 
 /// A file whose reward nests `depth` deep.
@@ -74,48 +74,31 @@ fn named<R: AllocGlobal>(rt: &R, var: usize, value: usize, action: usize) -> Res
     Ok(file)
 }
 
-/// The file was read, and its result written whole.
-fn is_solved<R: Abort>(rt: &R, what: &str, answer: &Answer) {
-    assert_eq!(rt; answer.number, 0, "{what}");
-    assert!(rt; answer.output.ends_with(b"\nend\n"), "{what}");
-}
-
-/// The file was refused, and nothing was written.
-fn is_refused<R: Abort>(rt: &R, what: &str, answer: &Answer) {
-    assert_eq!(rt; answer.number, 5, "{what}");
-    assert_eq!(rt;
-        answer.message.as_slice(),
-        b"refused\n".as_slice(),
-        "{what}"
-    );
-    assert!(rt; answer.output.is_empty(), "{what}");
-}
-
 #[test]
 fn limits(rt: HostRuntime) -> Result<(), Fail> {
-    is_solved(&rt, "nesting 300", &solve(&rt, &nested(&rt, 300)?)?);
-    is_refused(&rt, "nesting 301", &solve(&rt, &nested(&rt, 301)?)?);
-    is_refused(&rt, "nesting 100000", &solve(&rt, &nested(&rt, 100_000)?)?);
-    is_solved(&rt, "64 values", &solve(&rt, &sized(&rt, 64, 1)?)?);
-    is_refused(&rt, "65 values", &solve(&rt, &sized(&rt, 65, 1)?)?);
-    is_solved(&rt, "64 actions", &solve(&rt, &sized(&rt, 2, 64)?)?);
-    is_refused(&rt, "65 actions", &solve(&rt, &sized(&rt, 2, 65)?)?);
-    is_solved(
+    assert_solved(&rt, "nesting 300", &solve(&rt, &nested(&rt, 300)?)?);
+    assert_refused(&rt, "nesting 301", &solve(&rt, &nested(&rt, 301)?)?);
+    assert_refused(&rt, "nesting 100000", &solve(&rt, &nested(&rt, 100_000)?)?);
+    assert_solved(&rt, "64 values", &solve(&rt, &sized(&rt, 64, 1)?)?);
+    assert_refused(&rt, "65 values", &solve(&rt, &sized(&rt, 65, 1)?)?);
+    assert_solved(&rt, "64 actions", &solve(&rt, &sized(&rt, 2, 64)?)?);
+    assert_refused(&rt, "65 actions", &solve(&rt, &sized(&rt, 2, 65)?)?);
+    assert_solved(
         &rt,
         "names of 64 bytes",
         &solve(&rt, &named(&rt, 64, 64, 64)?)?,
     );
-    is_refused(
+    assert_refused(
         &rt,
         "a variable of 65 bytes",
         &solve(&rt, &named(&rt, 65, 64, 64)?)?,
     );
-    is_refused(
+    assert_refused(
         &rt,
         "a value of 65 bytes",
         &solve(&rt, &named(&rt, 64, 65, 64)?)?,
     );
-    is_refused(
+    assert_refused(
         &rt,
         "an action of 65 bytes",
         &solve(&rt, &named(&rt, 64, 64, 65)?)?,

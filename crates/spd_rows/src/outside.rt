@@ -1,6 +1,7 @@
 //! An outside where one call fails: the open, a read or a write.
 use crate::command::{Answer, Outside, run, solve};
 use crate::files::{KEEP, KEEP_RESULT};
+use crate::refused::assert_solved;
 use std::process::Abort;
 use std::test::Fail;
 
@@ -53,23 +54,23 @@ fn read_fails(rt: HostRuntime) -> Result<(), Fail> {
             failing_reads: &[call],
             ..Outside::calm(KEEP, most)
         };
-        assert_answer(&rt, &run(&rt, SOLVE, outside)?, 0, "", 177);
+        assert_answer(&rt, &run(&rt, SOLVE, outside)?, 0, "", 248);
     }
     Ok(())
 }
 
-/// The result's 177 bytes are 177 writes of one byte or 12 of up to 16.
+/// The result's 248 bytes are 248 writes of one byte or 16 of up to 16.
 #[test]
 fn write_fails(rt: HostRuntime) -> Result<(), Fail> {
-    assert_eq!(rt; KEEP_RESULT.len(), 177);
+    assert_eq!(rt; KEEP_RESULT.len(), 248);
     for (most, call, taken) in [
         (1, 0, 0),
         (1, 1, 1),
-        (1, 176, 176),
+        (1, 247, 247),
         (16, 0, 0),
         (16, 1, 16),
         (16, 2, 32),
-        (16, 11, 176),
+        (16, 15, 240),
     ] {
         let outside = Outside {
             failing_writes: &[call],
@@ -78,12 +79,12 @@ fn write_fails(rt: HostRuntime) -> Result<(), Fail> {
         assert_answer(&rt, &run(&rt, SOLVE, outside)?, 12, "cannot write\n", taken);
     }
     // No write comes after the last byte.
-    for (most, call) in [(1, 177), (16, 12)] {
+    for (most, call) in [(1, 248), (16, 16)] {
         let outside = Outside {
             failing_writes: &[call],
             ..Outside::calm(KEEP, most)
         };
-        assert_answer(&rt, &run(&rt, SOLVE, outside)?, 0, "", 177);
+        assert_answer(&rt, &run(&rt, SOLVE, outside)?, 0, "", 248);
     }
     Ok(())
 }
@@ -91,7 +92,7 @@ fn write_fails(rt: HostRuntime) -> Result<(), Fail> {
 #[test]
 fn output_is_full(rt: HostRuntime) -> Result<(), Fail> {
     for most in [1, 16, 4096] {
-        for room in [0, 1, 100, 176] {
+        for room in [0, 1, 100, 247] {
             let outside = Outside {
                 room,
                 ..Outside::calm(KEEP, most)
@@ -99,10 +100,10 @@ fn output_is_full(rt: HostRuntime) -> Result<(), Fail> {
             assert_answer(&rt, &run(&rt, SOLVE, outside)?, 12, "cannot write\n", room);
         }
         let outside = Outside {
-            room: 177,
+            room: 248,
             ..Outside::calm(KEEP, most)
         };
-        assert_answer(&rt, &run(&rt, SOLVE, outside)?, 0, "", 177);
+        assert_answer(&rt, &run(&rt, SOLVE, outside)?, 0, "", 248);
     }
     Ok(())
 }
@@ -116,7 +117,11 @@ fn padded<R: AllocGlobal>(rt: &R, len: usize) -> Result<Vec<u8>, Fail> {
 
 #[test]
 fn longest_file(rt: HostRuntime) -> Result<(), Fail> {
-    assert_answer(&rt, &solve(&rt, &padded(&rt, FILE_LIMIT)?)?, 0, "", 177);
+    assert_solved(
+        &rt,
+        "the longest file",
+        &solve(&rt, &padded(&rt, FILE_LIMIT)?)?,
+    );
     let too_long = padded(&rt, FILE_LIMIT + 1)?;
     assert_answer(&rt, &solve(&rt, &too_long)?, 4, "m is too long\n", 0);
     Ok(())
@@ -149,7 +154,7 @@ fn memory_is_refused(rt: HostRuntime) -> Result<(), Fail> {
     };
     match answer.number {
         14 => assert_answer(&rt, &answer, 14, "out of memory\n", 0),
-        _ => assert_answer(&rt, &answer, 0, "", 177),
+        _ => assert_answer(&rt, &answer, 0, "", 248),
     }
     Ok(())
 }

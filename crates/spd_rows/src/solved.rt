@@ -8,7 +8,7 @@ fn results(rt: HostRuntime) -> Result<(), Fail> {
     let cases = [
         ("keep", KEEP, 0, "", KEEP_RESULT),
         ("discount 0", KEEP_AT_ONCE, 0, "", KEEP_AT_ONCE_RESULT),
-        ("tie", KEEP_OR_HOLD, 0, "", KEEP_RESULT),
+        ("tie", KEEP_OR_HOLD, 0, "", KEEP_OR_HOLD_RESULT),
         ("die", DIE, 0, "", DIE_RESULT),
         (
             "tolerance 0",

@@ -9,6 +9,7 @@ use Rattle.std.specs.Str.Parse.{AllDigits, digits_value, digits_value_after}
 use Rattle.std.proofs.lemmas.Str.Parse.{digit_at, digit_from_value}
 use Rattle.std.proofs.lemmas.Str.{digit_value_digit}
 use Rattle.std.proofs.lemmas.Int.Digits.{digits_value-lt}
+use Rattle.std.proofs.lemmas.Bool.{and_parts}
 use Rattle.spd_scaled.proofs.DecimalUnits.{ten_up}
 use Rattle.spd_scaled.specs.DecimalReading.{sign_at, digits_at, fraction_at, exponent_at, exponent_step, without_zero, without_end_zeros, are_exponent_digits, read_value, value_step, lowest_of, number_step, decimal_of}
 
@@ -101,16 +102,12 @@ read_value-None n e = by_size (ltb n (10 ^ 38)) refl e
 
 -- ---- the digits of an exponent
 
-both_true : (a b : Bool) → (a && b) ≡ true → (a ≡ true) × (b ≡ true)
-both_true true b e = (refl, e)
-both_true false b e = absurd (cc)
-
 digit_below : (d : ℕ) → is_ascii_digit d ≡ true → digit_value d < 10
 digit_below d e = let low : 48 ≤ d = grind (arith, nat_tests) in let high : d ≤ 57 = grind (arith, nat_tests) in omega (arith, digit_value_digit d (low, high))
 
 pub AllDigits-list_all : (ds : List ℕ) → list_all is_ascii_digit ds ≡ true → AllDigits 10 ds
 AllDigits-list_all [] all = tt
-AllDigits-list_all (d ∷ ds) all = let parts = both_true (is_ascii_digit d) (list_all is_ascii_digit ds) all in (digit_below d parts.0, AllDigits-list_all ds parts.1)
+AllDigits-list_all (d ∷ ds) all = let parts = and_parts (is_ascii_digit d) (list_all is_ascii_digit ds) all in (digit_below d parts.0, AllDigits-list_all ds parts.1)
 
 pub is_digit : (d : ℕ) → digit_value d < 10 → is_ascii_digit d ≡ true
 is_digit d h = let range = digit_from_value d h in let low : 48 ≤ d = range.0 in let high : d ≤ 57 = range.1 in grind (arith, nat_tests)

@@ -8,12 +8,10 @@ use Rattle.std.proofs.lemmas.Bool.Decides.{nat_tests}
 use Rattle.spd_scaled.specs.declared.decimal.Decimal.{Decimal}
 use Rattle.spd_scaled.specs.declared.decimal.Scale.TheVariants.{TooFine, TooLarge}
 use Rattle.spd_scaled.specs.Decimal.{AreUnits, IsScaled}
+use Rattle.spd_scaled.proofs.CallerLemmas.UnitsLaws.{ten_above}
 use Rattle.spd_scaled.specs.DecimalReading.{limited, divided_by, units_from, signed_step}
 
 -- ---- powers of ten
-
-pub ten_above : (k : ℕ) → 0 < 10 ^ k
-ten_above k = omega (arith, one-le-pow k 10 (lit< tt))
 
 pub ten_up : (i j : ℕ) → i ≤ j → 10 ^ i ≤ 10 ^ j
 ten_up i j h = pow-le-pow_right (lit< tt) h

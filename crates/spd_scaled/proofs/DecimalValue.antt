@@ -11,7 +11,7 @@ use Rattle.std.proofs.lemmas.Str.{digit_value_digit}
 use Rattle.spd_scaled.specs.declared.decimal.Decimal.{Decimal}
 use Rattle.spd_scaled.specs.Decimal.{IsLowest}
 use Rattle.spd_scaled.specs.DecimalReading.{without_zero, without_end_zeros, read_value, value_step, lowest_of}
-use Rattle.spd_scaled.proofs.DecimalUnits.{ten_above}
+use Rattle.spd_scaled.proofs.CallerLemmas.UnitsLaws.{ten_above}
 use Rattle.spd_scaled.proofs.DecimalParts.{read_value-few, read_value-Some}
 
 -- ---- the zeros at the end are a power of ten

@@ -1,14 +1,11 @@
-mod Solving
+pub mod SolvingLaws
 mod StateTexts
+pub mod TableLaws
+pub mod RunLaws
 mod Writing
 pub mod SmallTokens
 pub mod SmallNumbers
 pub mod SmallTrees
-pub mod TextLines
-pub mod TextNodeLines
-pub mod TextDiagrams
-pub mod TextTables
-pub mod TextWhole
 pub mod SmallFiles
 pub mod SmallSteps
 pub mod SmallNumberLaws

@@ -201,12 +201,7 @@ parts_again var texts actions shape reward discount tolerance g t named values d
 -- the process that a file means is the one of its parts
 whole_is : (file : FileText) (p : Process) (m : MeansFile file p)
     → process (record { name = file.variable; values = file.values }) p.actions m.reward_tree (p.discount, m.tolerance_units) ≡ p
-whole_is file p m =
-    let var : Var = record { name = file.variable; values = file.values } in
-    ap (λ (vars : List Var). record { vars = vars; dds = []; actions = p.actions; reward = m.reward_tree ∷ []; discount = p.discount; tolerance = pos m.tolerance_units }) (sym m.vars)
-    ∙ ap (λ (dds : List Tree). record { vars = p.vars; dds = dds; actions = p.actions; reward = m.reward_tree ∷ []; discount = p.discount; tolerance = pos m.tolerance_units }) (sym m.dds)
-    ∙ ap (λ (reward : List Tree). record { vars = p.vars; dds = p.dds; actions = p.actions; reward = reward; discount = p.discount; tolerance = pos m.tolerance_units }) (sym m.reward)
-    ∙ ap (λ (tolerance : ℤ). record { vars = p.vars; dds = p.dds; actions = p.actions; reward = p.reward; discount = p.discount; tolerance = tolerance }) (sym m.tolerance)
+whole_is file p m = sym (λ i. record p { vars = m.vars i; dds = m.dds i; reward = m.reward i; tolerance = m.tolerance i; horizon = m.horizon i })
 
 -- what means a process is read as it
 pub file_again : (file : FileText) (p : Process) → MeansFile file p → file_at (tokens_of_file file) ≡ Some p

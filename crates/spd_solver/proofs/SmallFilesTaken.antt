@@ -19,7 +19,8 @@ use Rattle.spd_solver.specs.SmallToken.{Token, opening, closing, word}
 use Rattle.spd_solver.specs.SmallSyntax.{Shape, ActionText, FileText, tokens_of_tree, tokens_of_action, tokens_of_file}
 use Rattle.spd_solver.specs.Small.{IsNumber, MeansTree, MeansActions, MeansFile}
 use Rattle.spd_solver.specs.SmallReading.{◌>>=◌, opening_at, closing_at, word_at, keyword_at, number_of, tree_at, are_distinct, words_step, words_at, variable_of, variable_at, action_of, action_at, begins_action, actions_step, actions_at, named_actions_at, discount_of, settings_at, file_at}
-use Rattle.spd_solver.proofs.SmallSteps.{bind_some, guard_none, guard_some, neither, not_false, same_bytes, opening_takes, closing_takes, word_takes, keyword_takes}
+use Rattle.std.proofs.lemmas.Bool.{or_parts}
+use Rattle.spd_solver.proofs.SmallSteps.{bind_some, guard_none, guard_some, not_false, same_bytes, opening_takes, closing_takes, word_takes, keyword_takes}
 use Rattle.spd_solver.proofs.SmallNumberLaws.{number_takes}
 use Rattle.spd_solver.proofs.SmallTreesTaken.{tree_takes, distinct_pairs}
 
@@ -54,9 +55,9 @@ unfolding variable_of
 variable_of_takes name values var e =
     let made : Var = record { name = name; values = values } in
     let g = guard_none (((not (is_name name) || not (list_all is_value_name values)) || not (are_distinct values)) || ltb (length values) 2) (Some made) var e in
-    let three = neither ((not (is_name name) || not (list_all is_value_name values)) || not (are_distinct values)) (ltb (length values) 2) g.0 in
-    let two = neither (not (is_name name) || not (list_all is_value_name values)) (not (are_distinct values)) three.0 in
-    let one = neither (not (is_name name)) (not (list_all is_value_name values)) two.0 in
+    let three = or_parts ((not (is_name name) || not (list_all is_value_name values)) || not (are_distinct values)) (ltb (length values) 2) g.0 in
+    let two = or_parts (not (is_name name) || not (list_all is_value_name values)) (not (are_distinct values)) three.0 in
+    let one = or_parts (not (is_name name)) (not (list_all is_value_name values)) two.0 in
     let same : made ≡ var = cc in
     subst (λ (x : Var). (x.name ≡ name) × (x.values ≡ values) × IsVariable x) same (
       refl,
@@ -109,7 +110,7 @@ unfolding action_of
 action_of_takes var name variable table a e =
     let made : Action = record { name = name; tables = table ∷ []; cost = [] } in
     let g = guard_none (not (is_name name) || not (bytes_eq variable var.name)) (Some made) a e in
-    let two = neither (not (is_name name)) (not (bytes_eq variable var.name)) g.0 in
+    let two = or_parts (not (is_name name)) (not (bytes_eq variable var.name)) g.0 in
     (cc, not_false _ two.0, same_bytes _ _ (not_false _ two.1))
 
 action_takes : (var : Var) (tokens : List Token) (x : Action × List Token) → action_at var tokens ≡ Some x → TookAction var tokens x
@@ -275,7 +276,7 @@ spelled_parts tokens o k x c a r t name values actions reward end e1 e2 e3 e4 e5
 
 -- the process of these parts
 abbrev pub process : Var → List Action → Tree → ℕ × ℕ → Process
-process var actions reward s = record { vars = var ∷ []; dds = []; actions = actions; reward = reward ∷ []; discount = s.0; tolerance = pos s.1 }
+process var actions reward s = record { vars = var ∷ []; dds = []; actions = actions; reward = reward ∷ []; discount = s.0; tolerance = pos s.1; horizon = None }
 
 means_parts : (var : Var) (tokens : List Token) (a : List Action × List Token) (shape : Shape) (reward : Tree) (others : List Token) (s : ℕ × ℕ)
     → IsVariable var → length var.values ≤ 64 → (took : TookActions var 64 tokens a) → 1 ≤ length a.0 → AreDistinct (map (λ (x : Action). x.name) a.0)
@@ -301,6 +302,7 @@ means_parts var tokens a shape reward others s is few took some distinct means s
   tolerance_units = s.1;
   tolerance_means = settings.tolerance_is;
   tolerance = refl;
+  horizon = refl;
 }
 
 -- what a file was read to

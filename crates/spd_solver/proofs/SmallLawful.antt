@@ -14,12 +14,10 @@ use Rattle.spd_solver.specs.declared.small.trees.Role.TheVariants.{Table, Reward
 use Rattle.spd_solver.specs.SmallToken.{Token}
 use Rattle.spd_solver.specs.SmallReading.{◌>>=◌, opening_at, closing_at, word_at, keyword_at, tree_at, variable_at, action_of, action_at, begins_action, actions_step, actions_at, named_actions_at, settings_at, file_at, are_distinct}
 use Rattle.spd_solver.proofs.SmallSteps.{bind_some, guard_none, guard_some}
-use Rattle.spd_solver.proofs.SmallTreesLawful.{IsNumber-lt, All-none, All-cons, IsFit, tree_fits}
+use Rattle.std.proofs.lemmas.List.Elements.{All-nil, All-cons}
+use Rattle.spd_model.proofs.CallerLemmas.Lists.{All-one}
+use Rattle.spd_solver.proofs.SmallTreesLawful.{IsNumber-lt, IsFit, tree_fits}
 use Rattle.spd_solver.proofs.SmallFilesTaken.{IsVariable, variable_takes, action_of_takes, named_actions_take, settings_take, process}
-
--- a list of one
-All-one : {X : Type 0} (P : X → Type 0) (x : X) → P x → All P (x ∷ [])
-All-one P x here = All-cons P x [] here (All-none P)
 
 distinct_one : (x : List ℕ) → AreDistinct (x ∷ [])
 distinct_one x i j d before within = absurd (omega arith)
@@ -39,7 +37,7 @@ module _ (var : Var) (actions : List Action) (reward : Tree) (s : ℕ × ℕ) wh
     named = is;
     one_each = refl;
     tables = tables;
-    cost = record { few = omega arith; each = All-none (IsReward whole) };
+    cost = record { few = omega arith; each = All-nil (IsReward whole) };
   }
     where
       tables : (i : ℕ) (other : Tree) → i < 1 → IsTable whole i (slice_index_or (table ∷ []) i other)
@@ -57,8 +55,8 @@ module _ (var : Var) (actions : List Action) (reward : Tree) (s : ℕ × ℕ) wh
     values = All-one HasValues var (record { some = omega (arith, is.least); few = few; named = is.values; distinct = is.differ });
     few_tests = omega (arith, few);
     few_dds = omega arith;
-    dds_fit = All-none (All (Fits whole));
-    dds_nest = All-none (λ n. n ≤ 300);
+    dds_fit = All-nil (All (Fits whole));
+    dds_nest = All-nil (λ n. n ≤ 300);
     some_actions = some;
     few_actions = most;
     actions_distinct = distinct;
@@ -67,6 +65,7 @@ module _ (var : Var) (actions : List Action) (reward : Tree) (s : ℕ × ℕ) wh
     discount = omega (arith, below);
     tolerance_low = omega (arith, ints);
     tolerance_high = omega (arith, ints, small);
+    horizon = tt;
   }
 
 -- ---- actions
@@ -92,7 +91,7 @@ module _ (P : Action → Type 0) (var : Var)
   more_hold : (n : ℕ) (tokens : List Token) → ((others : List Token) (x : List Action × List Token) → actions_at var n others ≡ Some x → All P x.0)
       → (b : Bool) (x : List Action × List Token) → cond b (actions_step var (actions_at var n) tokens) (Some ([], tokens)) ≡ Some x → All P x.0
   unfolding actions_step
-  more_hold n tokens holds false x e = subst (λ (y : List Action × List Token). All P y.0) (same_Some ([], tokens) x e) (All-none P)
+  more_hold n tokens holds false x e = subst (λ (y : List Action × List Token). All P y.0) (same_Some ([], tokens) x e) (All-nil P)
   more_hold n tokens holds true x e =
       let a = bind_some (action_at var tokens) (λ a. actions_at var n a.1 >>= λ more. Some (a.0 ∷ more.0, more.1)) x e in
       let m = bind_some (actions_at var n a.0.1) (λ more. Some (a.0.0 ∷ more.0, more.1)) x a.2 in
@@ -101,7 +100,7 @@ module _ (P : Action → Type 0) (var : Var)
 
   actions_hold : (n : ℕ) (tokens : List Token) (x : List Action × List Token) → actions_at var n tokens ≡ Some x → All P x.0
   unfolding actions_at
-  actions_hold zero tokens x e = subst (λ (y : List Action × List Token). All P y.0) (same_Some ([], tokens) x e) (All-none P)
+  actions_hold zero tokens x e = subst (λ (y : List Action × List Token). All P y.0) (same_Some ([], tokens) x e) (All-nil P)
   actions_hold (suc n) tokens x e = more_hold n tokens (actions_hold n) (begins_action tokens) x e
 
   named_actions_hold : (tokens : List Token) (x : List Action × List Token) → named_actions_at var tokens ≡ Some x → All P x.0

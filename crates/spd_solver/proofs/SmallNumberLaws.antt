@@ -11,7 +11,8 @@ use Rattle.std.proofs.lemmas.List.Quantifiers.{position-Some}
 use Rattle.std.proofs.lemmas.Bool.{ltb-false, leb-false, eqb-true, le-ltb, lt-ltb, lt-leb}
 use Rattle.spd_solver.specs.Small.{IsNumber, with_point}
 use Rattle.spd_solver.specs.SmallReading.{◌>>=◌, parts_step, parts_of, digits_of, scaled, number_of}
-use Rattle.spd_solver.proofs.SmallSteps.{bind_some, guard_none, guard_some, neither}
+use Rattle.std.proofs.lemmas.Bool.{or_parts}
+use Rattle.spd_solver.proofs.SmallSteps.{bind_some, guard_none, guard_some}
 
 abbrev is_point : ℕ → Bool
 is_point byte = eqb byte 46
@@ -55,8 +56,8 @@ number_takes most places text n e =
     let whole = b.0.0 in
     let fraction = b.0.1 in
     let g = guard_none (test b.0) (scaled places b.0) n b.2 in
-    let two = neither (eqb (length whole) 0 || ltb 9 (length whole)) (ltb most (length fraction)) g.0 in
-    let one = neither (eqb (length whole) 0) (ltb 9 (length whole)) two.0 in
+    let two = or_parts (eqb (length whole) 0 || ltb 9 (length whole)) (ltb most (length fraction)) g.0 in
+    let one = or_parts (eqb (length whole) 0) (ltb 9 (length whole)) two.0 in
     let w = bind_some (digits_of whole) (λ x. digits_of fraction >>= λ y. Some (x * 10 ^ places + y * 10 ^ (places - length fraction))) n g.1 in
     let f = bind_some (digits_of fraction) (λ y. Some (w.0 * 10 ^ places + y * 10 ^ (places - length fraction))) n w.2 in
     let wd = digits_take whole w.0 w.1 in

@@ -1,6 +1,7 @@
 -- Numbers: the digits that were read so far, and the bounds of what they write.
 use Rattle.std.proofs.Common.{◌≡◌, ℕ, ◌+◌, ◌-◌, ◌*◌, ◌^◌, ◌<◌, ◌≤◌, true, List, [], ◌∷◌, length, get_or, take, refl, ap, ◌∙◌, arith, add-one}
-use Rattle.std.proofs.Math.Nat.{pow-suc, pow-le-pow_right, mul-le-mul}
+use Rattle.std.proofs.Math.Nat.{pow-suc, pow-le-pow_right}
+use Rattle.std.proofs.lemmas.Nat.{mul-le}
 use Rattle.std.specs.List.{list_all}
 use Rattle.std.specs.Char.{is_ascii_digit, digit_value}
 use Rattle.std.specs.Str.Parse.{digits_value}
@@ -32,15 +33,12 @@ Wrote-more text i value within wrote digit =
 pub ten_to : (i : ℕ) → i ≤ 12 → 10 ^ i ≤ 1000000000000
 ten_to i le = pow-le-pow_right {n = 10} (omega arith) le
 
-product_bound : (x y a b : ℕ) → x ≤ a → y ≤ b → x * y ≤ a * b
-product_bound x y a b xa yb = mul-le-mul xa yb
-
 -- what a number's parts add up to
 pub units_bound : (whole fraction w f places : ℕ) → w ≤ 9 → f ≤ 12 → places ≤ 12 → whole < 10 ^ w → fraction < 10 ^ f
     → whole * 10 ^ places + fraction * 10 ^ (places - f) < 10 ^ 25
 units_bound whole fraction w f places w_le f_le places_le whole_lt fraction_lt =
     let p = ten_to places places_le in
     let s = ten_to (places - f) (omega arith) in
-    let a = product_bound whole (10 ^ places) 1000000000000 1000000000000 (omega (arith, ten_to w (omega arith))) p in
-    let b = product_bound fraction (10 ^ (places - f)) 1000000000000 1000000000000 (omega (arith, ten_to f f_le)) s in
+    let a = mul-le whole (10 ^ places) 1000000000000 1000000000000 (omega (arith, ten_to w (omega arith))) p in
+    let b = mul-le fraction (10 ^ (places - f)) 1000000000000 1000000000000 (omega (arith, ten_to f f_le)) s in
     omega (arith, a, b)

@@ -1,5 +1,5 @@
 -- The definitions of the small form, computed on a file with one action.
-use Rattle.std.proofs.Common.{◌≡◌, ℕ, true, false, List, [], ◌∷◌, Some, pos, refl}
+use Rattle.std.proofs.Common.{◌≡◌, ℕ, true, false, List, [], ◌∷◌, Some, None, pos, refl}
 use Rattle.std.specs.Prelude.{codes}
 use Rattle.spd_model.specs.Process.{Process}
 use Rattle.spd_model.specs.declared.tree.Tree.{Tree, Leaf, Branch}
@@ -29,6 +29,7 @@ stay_process = record {
   reward = Branch 0 false (one ∷ nought ∷ []) ∷ [];
   discount = 500000;
   tolerance = pos 100000000;
+  horizon = None;
 }
 
 stay_read : file_at (tokens_of stay_file) ≡ Some stay_process

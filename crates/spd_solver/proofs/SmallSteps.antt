@@ -20,11 +20,6 @@ pub guard_some : {A : Type 0} (b : Bool) (o : Option A) (y : A) → cond b o Non
 guard_some true o y e = (refl, e)
 guard_some false o y e = absurd cc
 
--- neither test passed
-pub neither : (a b : Bool) → (a || b) ≡ false → (a ≡ false) × (b ≡ false)
-neither true b e = absurd cc
-neither false b e = (refl, e)
-
 pub not_false : (a : Bool) → not a ≡ false → a ≡ true
 not_false true e = refl
 not_false false e = absurd cc

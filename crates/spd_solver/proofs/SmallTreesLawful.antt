@@ -7,15 +7,16 @@ use Rattle.std.specs.Str.Parse.{digits_value, AllDigits}
 use Rattle.std.proofs.lemmas.Int.{ints}
 use Rattle.std.proofs.lemmas.Int.Digits.{digits_value-lt}
 use Rattle.std.proofs.lemmas.List.{length-map, length-replicate}
+use Rattle.std.proofs.lemmas.List.Elements.{All-nil, All-cons, All-append}
 use Rattle.std.proofs.lemmas.List.Folds.{list_all-append}
+use Rattle.spd_model.proofs.CallerLemmas.Trees.{read_tree-Branch}
 use Rattle.std.proofs.lemmas.Nat.{pow-add}
 use Rattle.std.proofs.lemmas.Option.{same_Some}
 use Rattle.std.proofs.Math.Nat.{mul-mod_left}
-use Rattle.spd_model.specs.declared.tree.Tree.{Tree, Leaf, Branch, Row_of-Tree, end_of-Tree, more_of-Tree, items-the_row-Tree, items_hidden-the_row-Tree-0}
-use Rattle.spd_model.specs.declared.tree.Tree.TheBlock.{hidden-the_row-Tree-0}
+use Rattle.spd_model.specs.declared.tree.Tree.{Tree, Leaf, Branch}
 use Rattle.spd_model.specs.declared.process.Var.{Var}
 use Rattle.spd_model.specs.Process.{Process}
-use Rattle.spd_model.specs.Trees.{Reading, read_tree, read_kids, Part, parts, nesting}
+use Rattle.spd_model.specs.Trees.{read_tree, Part, parts, nesting}
 use Rattle.spd_model.specs.Trees.{number as number_part, choice as choice_part}
 use Rattle.spd_model.specs.Lawful.{Fits, FitsTable, FitsReward}
 use Rattle.spd_model.specs.States.{sizes}
@@ -61,31 +62,6 @@ IsNumber-rem text n h =
   where
     thousands : (a b c : ℕ) → a * 1000000000000 + b * (c * 1000) ≡ (a * 1000000000 + b * c) * 1000
     thousands a b c = omega arith
-
--- ---- what trees come to
-
-read_kids-items : {X : Type 0} (way : Reading X) (diagrams : List X) {n : _} (row : Row_of-Tree n)
-    → read_kids way diagrams row ≡ map (read_tree way diagrams) (items-the_row-Tree n row)
-read_kids-items way diagrams end_of-Tree = refl
-read_kids-items way diagrams (more_of-Tree kid row) = ap (λ l. read_tree way diagrams kid ∷ l) (read_kids-items way diagrams row)
-
-read_tree-Branch : {X : Type 0} (way : Reading X) (diagrams : List X) (var : ℕ) (primed : Bool) (kids : List Tree)
-    → read_tree way diagrams (Branch var primed kids) ≡ way.branch var primed (map (read_tree way diagrams) kids)
-read_tree-Branch way diagrams var primed kids =
-    ap (way.branch var primed) (read_kids-items way diagrams (hidden-the_row-Tree-0 kids) ∙ ap (map (read_tree way diagrams)) (items_hidden-the_row-Tree-0 kids))
-
--- ---- All
-
-pub All-none : {X : Type 0} (P : X → Type 0) → All P []
-All-none P k d within = absurd (omega arith)
-
-pub All-cons : {X : Type 0} (P : X → Type 0) (x : X) (xs : List X) → P x → All P xs → All P (x ∷ xs)
-All-cons P x xs first rest zero d within = first
-All-cons P x xs first rest (suc k) d within = rest k d (omega arith)
-
-pub All-both : {X : Type 0} (P : X → Type 0) (xs ys : List X) → All P xs → All P ys → All P (xs ++ ys)
-All-both P [] ys first rest = rest
-All-both P (x ∷ xs) ys first rest = All-cons P x (xs ++ ys) (first 0 x (omega arith)) (All-both P xs ys (λ k d within. first (suc k) d (omega arith)) rest)
 
 -- P of each tree of a list
 abbrev pub Each : (Tree → Type 0) → List Tree → Type 0
@@ -162,8 +138,8 @@ pub record IsFit (role : Role) (m : Process) (depth : ℕ) (tree : Tree) : Type 
 
 leaf_fits : (role : Role) (m : Process) (depth : ℕ) (text : List ℕ) (n : ℕ) → IsNumber (most_digits role) 12 text n → IsFit role m (suc depth) (Leaf (pos n))
 leaf_fits role m depth text n is = record {
-  fits = All-cons (Fits m) (number_part (pos n)) [] (small role is) (All-none (Fits m));
-  serves = All-cons (Serves role) (number_part (pos n)) [] (serves role is) (All-none (Serves role));
+  fits = All-cons (Fits m) (number_part (pos n)) [] (small role is) (All-nil (Fits m));
+  serves = All-cons (Serves role) (number_part (pos n)) [] (serves role is) (All-nil (Serves role));
   nests = omega arith;
 }
   where
@@ -176,8 +152,8 @@ leaf_fits role m depth text n is = record {
     serves Reward is = IsNumber-rem text n is
 
 all_parts : (Q : Part → Type 0) (kids : List Tree) → Each (λ kid. All Q (read_tree parts [] kid)) kids → All Q (flat_map (λ kid. kid) (map (read_tree parts []) kids))
-all_parts Q [] each = All-none Q
-all_parts Q (kid ∷ kids) each = All-both Q (read_tree parts [] kid) (flat_map (λ kid. kid) (map (read_tree parts []) kids)) each.0 (all_parts Q kids each.1)
+all_parts Q [] each = All-nil Q
+all_parts Q (kid ∷ kids) each = All-append Q (read_tree parts [] kid) (flat_map (λ kid. kid) (map (read_tree parts []) kids)) each.0 (all_parts Q kids each.1)
 
 deepest : (depth a : ℕ) (kids : List Tree) → a ≤ depth → Each (λ kid. read_tree nesting [] kid ≤ depth) kids → fold max a (map (read_tree nesting []) kids) ≤ depth
 deepest depth a [] start each = start
@@ -188,7 +164,7 @@ Each-map P Q f [] each = tt
 Each-map P Q f (kid ∷ kids) each = (f kid each.0, Each-map P Q f kids each.1)
 
 branch_serves : (role : Role) (var : Var) (text : List ℕ) (primed : Bool) (count : ℕ) → IsHead role var text primed → Serves role (choice_part 0 primed count)
-branch_serves Table var text primed count head = λ next. refl
+branch_serves Table var text primed count head = λ next. omega arith
 branch_serves Reward var text false count head = refl
 branch_serves Reward var text true count head = absurd head
 

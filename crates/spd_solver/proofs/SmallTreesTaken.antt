@@ -13,7 +13,8 @@ use Rattle.spd_solver.specs.SmallToken.{Token, opening, closing, word}
 use Rattle.spd_solver.specs.SmallSyntax.{Shape, number, choice, Branches, none, branch, tokens_of_tree, tokens_of_branches}
 use Rattle.spd_solver.specs.Small.{most_digits, value_number, named, MeansTree, MeansKids}
 use Rattle.spd_solver.specs.SmallReading.{◌>>=◌, opening_at, closing_at, word_at, number_of, head_of, branch_at, fill_step, filled, branches_at, all_of, inside_at, leaf_at, tree_step, tree_at, are_distinct}
-use Rattle.spd_solver.proofs.SmallSteps.{bind_some, neither, not_true, same_bytes, opening_takes, closing_takes, word_takes}
+use Rattle.std.proofs.lemmas.Bool.{or_parts}
+use Rattle.spd_solver.proofs.SmallSteps.{bind_some, not_true, same_bytes, opening_takes, closing_takes, word_takes}
 use Rattle.spd_solver.proofs.SmallNumberLaws.{number_takes, both}
 use Rattle.spd_solver.proofs.SmallTreeLaws.{set_here, set_there, length_set, head_takes}
 
@@ -21,8 +22,8 @@ use Rattle.spd_solver.proofs.SmallTreeLaws.{set_here, set_there, length_set, hea
 
 none_passes : (p : List ℕ → Bool) (xs : List (List ℕ)) → list_any p xs ≡ false → (j : ℕ) (d : List ℕ) → j < length xs → p (get_or xs j d) ≡ false
 none_passes p [] fails j d within = absurd (omega arith)
-none_passes p (x ∷ xs) fails zero d within = (neither (p x) (list_any p xs) fails).0
-none_passes p (x ∷ xs) fails (suc j) d within = none_passes p xs (neither (p x) (list_any p xs) fails).1 j d (omega arith)
+none_passes p (x ∷ xs) fails zero d within = (or_parts (p x) (list_any p xs) fails).0
+none_passes p (x ∷ xs) fails (suc j) d within = none_passes p xs (or_parts (p x) (list_any p xs) fails).1 j d (omega arith)
 
 pub distinct_pairs : (xs : List (List ℕ)) → are_distinct xs ≡ true → AreDistinct xs
 unfolding are_distinct

@@ -1,19 +1,15 @@
 -- Pieces that are written one after another.
-use Rattle.std.proofs.Common.{◌≡◌, ℕ, zero, suc, ◌+◌, ◌<◌, ◌≤◌, List, [], ◌∷◌, ◌++◌, length, take, drop, get_or, Bor, Option, Result, Ok, Err, refl, ap, sym, ◌∙◌, subst, arith, length-append, append_assoc, append-nil, add-one}
-use Rattle.std.proofs.lemmas.List.{take-append-le}
-use Rattle.std.proofs.Math.Seq.{take-append-add}
-use Rattle.std.specs.Prelude.{OnErr}
-use Rattle.spd_edge.specs.Told.{Took}
-use Rattle.spd_edge.proofs.ToldLemmas.{Took-trans}
-use Rattle.spd_solver.specs.Pieces.{joined, TookFront}
+use Rattle.std.proofs.Common.{◌≡◌, ℕ, zero, suc, ◌+◌, ◌<◌, ◌≤◌, List, [], ◌∷◌, ◌++◌, length, take, drop, get_or, Bor, Option, ap, sym, ◌∙◌, subst, arith, append_assoc, append-nil, add-one, refl}
+use Rattle.std.specs.Prelude.{flat_map}
+use Rattle.spd_edge.specs.Told.{Took, TookFront}
+use Rattle.spd_edge.proofs.CallerLemmas.{Took-trans, TookFront-more, TookFront-longer}
 
--- a fact that holds anyway holds of an error
-pub on_err : {T E P : Type 0} (r : Result T E) → P → OnErr r P
-on_err (Ok x) p = tt
-on_err (Err e) p = p
+-- the text of pieces, one after another
+abbrev pub joined : List (Bor (List ℕ)) → List ℕ
+joined pieces = flat_map (λ (piece : Bor (List ℕ)). piece.now) pieces
 
 -- the text of all pieces: of the first k, of the next one, of the others
-pub joined-split : (pieces : List (Bor (List ℕ))) (k : ℕ) (d : Bor (List ℕ)) → k < length pieces
+joined-split : (pieces : List (Bor (List ℕ))) (k : ℕ) (d : Bor (List ℕ)) → k < length pieces
     → joined pieces ≡ joined (take k pieces) ++ ((get_or pieces k d).now ++ joined (drop (suc k) pieces))
 joined-split [] k d h = absurd (omega arith)
 joined-split (p ∷ ps) zero d h = refl
@@ -21,7 +17,7 @@ joined-split (p ∷ ps) (suc k) d h =
     ap (λ t. p.now ++ t) (joined-split ps k d (omega arith))
     ∙ sym (append_assoc p.now (joined (take k ps)) ((get_or ps k d).now ++ joined (drop (suc k) ps)))
 
-pub joined-take_more : (pieces : List (Bor (List ℕ))) (k : ℕ) (d : Bor (List ℕ)) → k < length pieces
+joined-take_more : (pieces : List (Bor (List ℕ))) (k : ℕ) (d : Bor (List ℕ)) → k < length pieces
     → joined (take (suc k) pieces) ≡ joined (take k pieces) ++ (get_or pieces k d).now
 joined-take_more [] k d h = absurd (omega arith)
 joined-take_more (p ∷ ps) zero d h = simp append-nil refl
@@ -32,18 +28,13 @@ joined-take_more (p ∷ ps) (suc k) d h =
 pub Took-more : (a b c : Option (List ℕ)) (pieces : List (Bor (List ℕ))) (k : ℕ) (d : Bor (List ℕ)) → k < length pieces
     → Took a (joined (take k pieces)) b → Took b (get_or pieces k d).now c → Took a (joined (take (k + 1) pieces)) c
 Took-more a b c pieces k d h first next =
-    subst (λ t. Took a t c) (sym (ap (λ (n : ℕ). joined (take n pieces)) (add-one k) ∙ joined-take_more pieces k d h)) (Took-trans a b c (joined (take k pieces)) (get_or pieces k d).now first next)
+    subst (λ t. Took a t c) (sym (ap (λ (n : ℕ). joined (take n pieces)) (add-one k) ∙ joined-take_more pieces k d h))
+    (Took-trans a b c (joined (take k pieces)) (get_or pieces k d).now first next)
 
 -- the first k pieces were written whole, and of the next one the front
 pub TookFront-after : (a b c : Option (List ℕ)) (pieces : List (Bor (List ℕ))) (k : ℕ) (d : Bor (List ℕ)) → k < length pieces
     → Took a (joined (take k pieces)) b → TookFront b (get_or pieces k d).now c → TookFront a (joined pieces) c
 TookFront-after a b c pieces k d h first next =
-    let before = joined (take k pieces) in
-    let piece = (get_or pieces k d).now in
-    let rest = joined (drop (suc k) pieces) in
-    let whole = joined-split pieces k d h in
-    let count : length before + next.0 ≤ length (joined pieces) =
-    rw whole (omega (arith, next.1, length-append before (piece ++ rest), length-append piece rest)) in
-    let front : take (length before + next.0) (joined pieces) ≡ before ++ take next.0 piece =
-    ap (take (length before + next.0)) whole ∙ take-append-add before (piece ++ rest) next.0 ∙ ap (λ t. before ++ t) (take-append-le next.0 piece rest next.1) in
-    (length before + next.0, count, subst (λ t. Took a t c) (sym front) (Took-trans a b c before (take next.0 piece) first next.2))
+    let others = joined (drop (suc k) pieces) in
+    subst (λ (t : List ℕ). TookFront a t c) (sym (joined-split pieces k d h))
+    (TookFront-more a b c (joined (take k pieces)) ((get_or pieces k d).now ++ others) first (TookFront-longer b c (get_or pieces k d).now others next))

@@ -1,6 +1,5 @@
-pub mod Words
+pub mod Command
 pub mod Message
-pub mod Pieces
 pub mod SmallToken
 pub mod SmallSeen
 pub mod SmallSyntax
@@ -8,6 +7,7 @@ pub mod Small
 pub mod SmallReading
 pub mod SmallContents
 pub mod Run
-pub mod TextParts
-pub mod TextNodes
-pub mod Solved
+pub mod Describes
+pub mod Kind
+pub mod Solve
+pub mod inner

@@ -3,20 +3,21 @@ use Rattle.std.specs.Prelude.{ℕ, List, [], ◌∷◌, codes, decimal}
 use Rattle.std.specs.List.{concat}
 use Rattle.spd_scaled.specs.Units.{units_text}
 use Rattle.spd_solver.specs.declared.status.Status.{Status}
-use Rattle.spd_solver.specs.declared.status.Status.TheVariants.{Done, Usage, OpenFault, ReadFault, TooLong, Refused, Sum, Range, TurnLimit, WriteFault, Memory}
+use Rattle.spd_solver.specs.declared.status.Status.TheVariants.{Done, Usage, OpenFault, ReadFault, TooLong, Refused, TooManyStates, Sum, Range, TurnLimit, WriteFault, Memory}
 
-abbrev pub number_of : Status → ℕ
-number_of Done = 0
-number_of (Usage word) = 2
-number_of (OpenFault name) = 3
-number_of (ReadFault name) = 3
-number_of (TooLong name) = 4
-number_of Refused = 5
-number_of (Sum action var state sum) = 6
-number_of (Range action state value) = 7
-number_of (TurnLimit residual) = 8
-number_of WriteFault = 12
-number_of Memory = 14
+abbrev pub status_number : Status → ℕ
+status_number Done = 0
+status_number (Usage word) = 2
+status_number (OpenFault name) = 3
+status_number (ReadFault name) = 3
+status_number (TooLong name) = 4
+status_number Refused = 5
+status_number (Sum action var state sum) = 6
+status_number (Range action state value) = 7
+status_number (TurnLimit residual) = 8
+status_number WriteFault = 12
+status_number (TooManyStates product) = 13
+status_number Memory = 14
 
 -- LF
 abbrev pub newline : List ℕ
@@ -39,6 +40,7 @@ message_of (OpenFault name) = concat (codes "cannot open " ∷ name ∷ newline 
 message_of (ReadFault name) = concat (codes "cannot read " ∷ name ∷ newline ∷ [])
 message_of (TooLong name) = concat (name ∷ codes " is too long" ∷ newline ∷ [])
 message_of Refused = concat (codes "refused" ∷ newline ∷ [])
+message_of (TooManyStates product) = concat (codes "too many states: " ∷ decimal product ∷ codes " or more" ∷ newline ∷ [])
 message_of (Sum action var state sum) = sum_message action var state (units_text 12 sum)
 message_of (Range action state value) = range_message action state (units_text 9 value)
 message_of (TurnLimit residual) = concat (codes "turn limit reached, residual " ∷ units_text 9 residual ∷ newline ∷ [])

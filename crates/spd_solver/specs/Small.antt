@@ -1,5 +1,5 @@
 -- The small form of a model file: which files it has, and to which process each is read.
-use Rattle.std.specs.Prelude.{ℕ, zero, suc, ◌+◌, ◌-◌, ◌*◌, ◌^◌, ◌<◌, ◌≤◌, ◌≡◌, Bool, true, false, IsTrue, List, [], ◌∷◌, ◌++◌, length, map, slice_get, Option, Some, pos}
+use Rattle.std.specs.Prelude.{ℕ, zero, suc, ◌+◌, ◌-◌, ◌*◌, ◌^◌, ◌<◌, ◌≤◌, ◌≡◌, Bool, true, false, IsTrue, List, [], ◌∷◌, ◌++◌, length, map, slice_get, Option, Some, None, pos}
 use Rattle.std.specs.List.{All, list_all, position}
 use Rattle.std.specs.Char.{is_ascii_digit}
 use Rattle.std.specs.Str.{bytes_eq}
@@ -102,6 +102,7 @@ pub record MeansFile (file : FileText) (p : Process) : Type 0 where
   pub tolerance_units : ℕ
   pub tolerance_means : IsNumber 9 9 file.tolerance tolerance_units
   pub tolerance : p.tolerance ≡ pos tolerance_units
+  pub horizon : p.horizon ≡ None
 
 -- The bytes of a file of the small form, and the process that it describes.
 pub record IsSmall (bytes : List ℕ) (p : Process) : Type 0 where

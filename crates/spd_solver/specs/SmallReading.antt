@@ -244,4 +244,4 @@ file_at tokens = do
   after ← keyword_at (codes "reward") a.1
   reward ← tree_at Reward x.0 300 after
   s ← settings_at reward.1
-  Some (record { vars = x.0 ∷ []; dds = []; actions = a.0; reward = reward.0 ∷ []; discount = s.0; tolerance = pos s.1 })
+  Some (record { vars = x.0 ∷ []; dds = []; actions = a.0; reward = reward.0 ∷ []; discount = s.0; tolerance = pos s.1; horizon = None })

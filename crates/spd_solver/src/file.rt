@@ -1,60 +1,80 @@
 //! Reading a whole file of a place.
-ghost use Rattle.std.specs.Prelude.{◌≡◌, ◌≢◌, ℕ, ◌<◌, ◌≤◌, List, length, true, false, IfOk, OnOk, IfErr, IfSome};
-ghost use Rattle.spd_edge.specs.Counts.{Rose};
-ghost use Rattle.spd_edge.specs.Names.{SameButFor, NoneFalls};
+ghost use Rattle.std.specs.Prelude.{◌≡◌, ◌≢◌, ℕ, ◌≤◌, List, length, None, Some, IfOk, OnOk, IfErr, IfSome};
+ghost use Rattle.spd_edge.specs.Counts.{NoneFalls};
+ghost use Rattle.spd_edge.specs.Names.{SameButFor};
+ghost use Rattle.spd_edge.specs.declared.outside.Stage.TheVariants as Stage;
+ghost use Rattle.spd_solver.specs.inner.Stages.{FailsToRead};
+ghost use Rattle.spd_solver.specs.declared.file.Unreadable.TheVariants as Unreadable;
 
 use spd_edge::{Open, Place, ReadAll, read_all};
-use std::alloc::Global;
+use spd_model::Text;
+use std::alloc::{AllocError, Global};
 
 /// The most bytes that a model file may have.
 pub const FILE_LIMIT: usize = 4_194_304;
 
 /// Why a file wasn't read.
-#[derive(Clone, Copy, Debug, PartialEq, Eq)]
+#[derive(Debug, Drop)]
 pub(crate) enum Unreadable {
-    /// It couldn't be opened.
-    Open,
-    /// A read failed.
-    Read,
-    /// It has more bytes than a file may have.
-    TooLong,
+    /// The file of this name couldn't be opened.
+    Open { name: Text },
+    /// A read of the file of this name failed.
+    Read { name: Text },
+    /// The file of this name has more bytes than it may have.
+    TooLong { name: Text },
     /// Memory was wanted and not found.
     Memory,
 }
 
-/// All bytes of the file of this name, which is opened, read to its end and closed.
+impl From<AllocError> for Unreadable {
+    ghost from_gives = { λ _ why. why ≡ Unreadable.Memory };
+
+    fn from(_: AllocError) -> Unreadable {
+        Unreadable::Memory
+    }
+}
+
+/// All bytes of the file of this name, which is opened, read to its end and closed. It has at most `limit` bytes.
 pub(crate) fn read_file<P: Place>(
     alloc: Global,
     place: &mut P,
     name: &[u8],
+    limit: usize,
 ) -> Result<Vec<u8>, Unreadable>
-    requires { P.asked_in place.old name.now ≡ false }
+    requires { (P.inputs place.old).stage name.now ≡ None }
 
-    ensures held { IfOk result (λ bytes. IfSome (P.holds_in place.old name.now) (λ held. bytes.items ≡ held)) }
-    ensures short { IfOk result (λ bytes. length bytes.items ≤ FILE_LIMIT) }
-    ensures too_long { result ≡ Err Unreadable.TooLong → IfSome (P.holds_in place.old name.now) (λ held. FILE_LIMIT < length held) }
-    ensures open { result ≡ Err Unreadable.Open → Rose (P.faults_in place.old name.now) (P.faults_in place.new name.now) }
-    ensures read { result ≡ Err Unreadable.Read → Rose (P.faults_in place.old name.now) (P.faults_in place.new name.now) }
+    ensures held { IfOk result (λ bytes. IfSome ((P.inputs place.old).holds name.now) (λ held. bytes.items ≡ held)) }
+    ensures within { IfOk result (λ bytes. length bytes.items ≤ limit) }
+    ensures calm { OnOk result ((P.inputs place.new).faults ≡ (P.inputs place.old).faults) }
+    ensures cause { IfErr result (FailsToRead (P.inputs place.old) (P.inputs place.new) name.now limit) }
 
-    // No other answer comes with a fault.
-    ensures calm { OnOk result (P.faults_in place.new ≡ P.faults_in place.old) }
-    ensures calm_long { result ≡ Err Unreadable.TooLong → P.faults_in place.new ≡ P.faults_in place.old }
-    ensures never_falls { NoneFalls (P.faults_in place.old) (P.faults_in place.new) }
-
-    ensures asked { SameButFor (P.asked_in place.old) (P.asked_in place.new) name.now }
-    ensures closed { (other : List ℕ) → P.is_open_in place.new other ≡ true → P.is_open_in place.old other ≡ true }
-    ensures holds { P.holds_in place.new ≡ P.holds_in place.old }
+    // Whatever the answer is.
+    ensures never_falls { NoneFalls (P.inputs place.old).faults (P.inputs place.new).faults }
+    ensures other_stages { SameButFor (P.inputs place.old).stage (P.inputs place.new).stage name.now }
+    ensures closed { (q : List ℕ) → (P.inputs place.new).stage q ≡ Some Stage.Open → (P.inputs place.old).stage q ≡ Some Stage.Open }
+    ensures holds { (P.inputs place.new).holds ≡ (P.inputs place.old).holds }
+    ensures outputs { P.outputs place.new ≡ P.outputs place.old }
 {
     let mut input = match place.open_in(name) {
         Ok(input) => input,
-        Err(Open::Failed) => return Err(Unreadable::Open),
+        Err(Open::Failed) => {
+            return Err(Unreadable::Open {
+                name: Text::from_slice(alloc, name)?,
+            });
+        }
         Err(Open::Memory) => return Err(Unreadable::Memory),
     };
-    let read = read_all(alloc, &mut input, FILE_LIMIT);
+    let read = read_all(alloc, &mut input, limit);
     place.close_in(name, input);
-    read.map_err(|fault| match fault {
-        ReadAll::Fault => Unreadable::Read,
-        ReadAll::TooLong => Unreadable::TooLong,
-        ReadAll::Memory => Unreadable::Memory,
-    })
+    match read {
+        Ok(bytes) => Ok(bytes),
+        Err(fault) => {
+            let name = Text::from_slice(alloc, name)?;
+            match fault {
+                ReadAll::Fault => Err(Unreadable::Read { name }),
+                ReadAll::TooLong => Err(Unreadable::TooLong { name }),
+                ReadAll::Memory => Err(Unreadable::Memory),
+            }
+        }
+    }
 }

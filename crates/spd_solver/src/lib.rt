@@ -1,16 +1,27 @@
-//! The solver: from the words of a command and a place of files to the text of a result and a status.
+//! The top call: from the words of a command and a place of files to the text of a result and a status.
+//!
+//! `solve_run` reads the words (`command`), the file (`file`) and the model in it (`small`), solves it over tables (`solving`, `tables`)
+//! and writes the text of its result. Each stage has an error of its own, which becomes a status (`status`); a status has a number and a
+//! message (`message`). What a command answers is defined by the kind of its end (`specs/Kind.antt`, `specs/Run.antt`) and by what the
+//! command means (`specs/Command.antt`, `specs/Solve.antt`): a further status is a line of the first, a further command a line of each
+//! relation of the second.
 #![tactic(auto)]
 
-mod fault;
+mod command;
 mod file;
+mod message;
 mod pieces;
 mod run;
 mod small;
+mod solving;
+mod states;
 mod status;
-mod text;
-mod words;
+mod tables;
+#[cfg(test)]
+mod tests;
 
 pub use file::FILE_LIMIT;
+pub use message::{number, write_message};
 pub use run::solve_run;
 pub use small::law_one_model;
-pub use status::{Status, number, write_message};
+pub use status::Status;

@@ -9,6 +9,3 @@ mod words;
 pub use file::law_one_model;
 pub(crate) use file::read_small;
 pub(crate) use unread::Unread;
-
-#[cfg(test)]
-mod tests;

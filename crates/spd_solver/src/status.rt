@@ -1,15 +1,14 @@
-//! How a command ended, its number and its message.
-ghost use Rattle.std.specs.Prelude.{◌≡◌, ◌≤◌, OnOk, OnErr};
-ghost use Rattle.spd_edge.specs.Counts.{Rose};
-ghost use Rattle.spd_edge.specs.Told.{Took};
-ghost use Rattle.spd_solver.specs.Pieces.{TookFront};
-ghost use Rattle.spd_solver.specs.Message.{number_of, sum_message, range_message, message_of};
+//! How a command ended.
+ghost use Rattle.std.specs.Prelude.{◌≡◌};
+ghost use Rattle.spd_solver.specs.inner.Stages.{unreadable_status, unread_status, unsolved_status};
+ghost use Rattle.spd_solver.specs.declared.status.Status.TheVariants as Ends;
 
-use crate::pieces::write_pieces;
-use itoa::Buffer;
-use spd_edge::{Failed, Sink};
+use crate::file::Unreadable;
+use crate::small::Unread;
+use crate::solving::Unsolved;
+use spd_edge::Failed;
 use spd_model::Text;
-use spd_scaled::put_units;
+use std::alloc::AllocError;
 
 /// How a command ended.
 #[derive(Debug, Drop)]
@@ -34,6 +33,11 @@ pub enum Status {
     },
     /// The file isn't a model file.
     Refused,
+    /// The process has more states than tables may have: `product` is the first product of the leading variables' numbers of values that
+    /// passes 4,096.
+    TooManyStates {
+        product: u32,
+    },
     /// The probabilities of this variable's values after this action at this state don't sum to one. The sum is in units of 10^-12.
     Sum {
         action: Text,
@@ -57,141 +61,73 @@ pub enum Status {
     Memory,
 }
 
-/// The exit status of a program that ends so.
-pub fn number(status: &Status) -> u8
-    ensures { result ≡ number_of status.now }
-{
-    match status {
-        Status::Done => 0,
-        Status::Usage { .. } => 2,
-        Status::OpenFault { .. } | Status::ReadFault { .. } => 3,
-        Status::TooLong { .. } => 4,
-        Status::Refused => 5,
-        Status::Sum { .. } => 6,
-        Status::Range { .. } => 7,
-        Status::TurnLimit { .. } => 8,
-        Status::WriteFault => 12,
-        Status::Memory => 14,
+impl From<Unreadable> for Status {
+    ghost from_gives = { λ why status. status ≡ unreadable_status why };
+
+    fn from(why: Unreadable) -> Status {
+        match why {
+            Unreadable::Open { name } => Status::OpenFault { name },
+            Unreadable::Read { name } => Status::ReadFault { name },
+            Unreadable::TooLong { name } => Status::TooLong { name },
+            Unreadable::Memory => Status::Memory,
+        }
     }
 }
 
-/// Writes the message of a sum that isn't one, by the texts of its parts.
-fn write_sum<'a, K: Sink>(
-    k: &mut K,
-    action: &'a [u8],
-    var: &'a [u8],
-    state: &'a [u8],
-    sum: &'a [u8],
-) -> Result<(), Failed>
-    ensures whole { OnOk result (Took (K.taken k.old) (sum_message action.now var.now state.now sum.now) (K.taken k.new)) }
-    ensures ok { OnOk result (K.faults k.new ≡ K.faults k.old) }
-    ensures front { OnErr result (TookFront (K.taken k.old) (sum_message action.now var.now state.now sum.now) (K.taken k.new)) }
-    ensures failed { OnErr result (Rose (K.faults k.old) (K.faults k.new)) }
-    ensures never_falls { K.faults k.old ≤ K.faults k.new }
-    ensures named { K.name k.new ≡ K.name k.old }
-{
-    write_pieces(
-        k,
-        &[
-            b"sum of action ",
-            action,
-            b", variable ",
-            var,
-            b" at ",
-            state,
-            b" is ",
-            sum,
-            b"\n",
-        ],
-    )
+impl From<Unread> for Status {
+    ghost from_gives = { λ why status. status ≡ unread_status why };
+
+    fn from(why: Unread) -> Status {
+        match why {
+            Unread::Refused => Status::Refused,
+            Unread::Memory => Status::Memory,
+        }
+    }
 }
 
-/// Writes the message of a reward that passes its limit, by the texts of its parts.
-fn write_range<'a, K: Sink>(
-    k: &mut K,
-    action: &'a [u8],
-    state: &'a [u8],
-    value: &'a [u8],
-) -> Result<(), Failed>
-    ensures whole { OnOk result (Took (K.taken k.old) (range_message action.now state.now value.now) (K.taken k.new)) }
-    ensures ok { OnOk result (K.faults k.new ≡ K.faults k.old) }
-    ensures front { OnErr result (TookFront (K.taken k.old) (range_message action.now state.now value.now) (K.taken k.new)) }
-    ensures failed { OnErr result (Rose (K.faults k.old) (K.faults k.new)) }
-    ensures never_falls { K.faults k.old ≤ K.faults k.new }
-    ensures named { K.name k.new ≡ K.name k.old }
-{
-    write_pieces(
-        k,
-        &[
-            b"reward of action ",
-            action,
-            b" at ",
-            state,
-            b" is ",
-            value,
-            b"\n",
-        ],
-    )
+impl From<Unsolved> for Status {
+    ghost from_gives = { λ why status. status ≡ unsolved_status why };
+
+    fn from(why: Unsolved) -> Status {
+        match why {
+            Unsolved::TooManyStates { product } => Status::TooManyStates { product },
+            Unsolved::Sum {
+                action,
+                var,
+                state,
+                sum,
+            } => Status::Sum {
+                action,
+                var,
+                state,
+                sum,
+            },
+            Unsolved::Range {
+                action,
+                state,
+                value,
+            } => Status::Range {
+                action,
+                state,
+                value,
+            },
+            Unsolved::Memory => Status::Memory,
+        }
+    }
 }
 
-/// Writes the message of a status: one line, or nothing for `Done`.
-///
-/// # Errors
-///
-/// `Failed` where a write failed: the sink then took the front of the message.
-pub fn write_message<K: Sink>(status: &Status, k: &mut K) -> Result<(), Failed>
-    ensures whole { OnOk result (Took (K.taken k.old) (message_of status.now) (K.taken k.new)) }
-    ensures ok { OnOk result (K.faults k.new ≡ K.faults k.old) }
-    ensures front { OnErr result (TookFront (K.taken k.old) (message_of status.now) (K.taken k.new)) }
-    ensures failed { OnErr result (Rose (K.faults k.old) (K.faults k.new)) }
-    ensures never_falls { K.faults k.old ≤ K.faults k.new }
-    ensures named { K.name k.new ≡ K.name k.old }
-{
-    match status {
-        Status::Done => Ok(()),
-        Status::Usage { word } => {
-            let mut digits = Buffer::new();
-            let word = digits.format(*word);
-            write_pieces(k, &[b"usage: word ", word.as_bytes(), b"\n"])
-        }
-        Status::OpenFault { name } => write_pieces(k, &[b"cannot open ", name.as_slice(), b"\n"]),
-        Status::ReadFault { name } => write_pieces(k, &[b"cannot read ", name.as_slice(), b"\n"]),
-        Status::TooLong { name } => write_pieces(k, &[name.as_slice(), b" is too long", b"\n"]),
-        Status::Refused => write_pieces(k, &[b"refused", b"\n"]),
-        Status::Sum {
-            action,
-            var,
-            state,
-            sum,
-        } => {
-            let mut digits = [0; 64];
-            let len = put_units(*sum, 12, &mut digits);
-            write_sum(
-                k,
-                action.as_slice(),
-                var.as_slice(),
-                state.as_slice(),
-                &digits[..len],
-            )
-        }
-        Status::Range {
-            action,
-            state,
-            value,
-        } => {
-            let mut digits = [0; 64];
-            let len = put_units(*value, 9, &mut digits);
-            write_range(k, action.as_slice(), state.as_slice(), &digits[..len])
-        }
-        Status::TurnLimit { residual } => {
-            let mut digits = [0; 64];
-            let len = put_units(*residual, 9, &mut digits);
-            write_pieces(
-                k,
-                &[b"turn limit reached, residual ", &digits[..len], b"\n"],
-            )
-        }
-        Status::WriteFault => write_pieces(k, &[b"cannot write", b"\n"]),
-        Status::Memory => write_pieces(k, &[b"out of memory", b"\n"]),
+impl From<AllocError> for Status {
+    ghost from_gives = { λ _ status. status ≡ Ends.Memory };
+
+    fn from(_: AllocError) -> Status {
+        Status::Memory
+    }
+}
+
+impl From<Failed> for Status {
+    ghost from_gives = { λ _ status. status ≡ Ends.WriteFault };
+
+    fn from(_: Failed) -> Status {
+        Status::WriteFault
     }
 }

@@ -1,16 +1,9 @@
 -- What a sink took of a text that was written to it.
-use Rattle.std.specs.Prelude.{ℕ, ◌≡◌, ◌≤◌, List, ◌++◌, Option, Result, MatchResult}
+use Rattle.std.specs.Prelude.{ℕ, ◌≡◌, ◌≤◌, List, Option, Result, MatchResult}
 use Rattle.spd_edge.specs.Counts.{Rose}
-use Rattle.spd_edge.specs.Told.{Took}
+use Rattle.spd_edge.specs.Told.{Took, TookFront}
 
--- a sink took a front of these bytes
-pub record TookFront (before : Option (List ℕ)) (bytes : List ℕ) (now : Option (List ℕ)) : Type 0 where
-  pub front : List ℕ
-  pub rest : List ℕ
-  pub split : bytes ≡ front ++ rest
-  pub took : Took before front now
-
--- a text was written: on Ok the sink took all of it, and on an error a front of it
+-- a text was written: on Ok the sink took all of it, and on an error the front of it
 abbrev pub Wrote : {T E : Type 0} → Option (List ℕ) → List ℕ → Result T E → Option (List ℕ) → Type 0
 Wrote before text result now = MatchResult result (λ _. Took before text now) (λ _. TookFront before text now)
 

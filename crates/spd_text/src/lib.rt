@@ -6,4 +6,5 @@ mod nodes;
 mod result;
 mod waiting;
 
+pub use names::{action_name, value_name, var_name};
 pub use result::write_result;

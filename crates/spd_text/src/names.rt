@@ -25,7 +25,7 @@ pub(crate) fn side_word(side: Side) -> &'static [u8]
 }
 
 /// The name of the action of this number, empty where there is none.
-pub(crate) fn action_name(model: &Model, action: u32) -> &[u8]
+pub fn action_name(model: &Model, action: u32) -> &[u8]
     ensures { result.now ≡ action_text model.now action }
 {
     match model.actions.get(action as usize) {
@@ -35,7 +35,7 @@ pub(crate) fn action_name(model: &Model, action: u32) -> &[u8]
 }
 
 /// The name of the variable of this number, empty where there is none.
-pub(crate) fn var_name(model: &Model, var: u32) -> &[u8]
+pub fn var_name(model: &Model, var: u32) -> &[u8]
     ensures { result.now ≡ var_text model.now var }
 {
     match model.vars.get(var as usize) {
@@ -45,7 +45,7 @@ pub(crate) fn var_name(model: &Model, var: u32) -> &[u8]
 }
 
 /// The name of a variable's value of this number, empty where there is none.
-pub(crate) fn value_name(var: &Var, value: u8) -> &[u8]
+pub fn value_name(var: &Var, value: u8) -> &[u8]
     ensures { result.now ≡ value_text var.now value }
 {
     match var.values.get(value as usize) {

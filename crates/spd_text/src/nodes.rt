@@ -47,15 +47,11 @@ fn put_node<K: Sink>(
     let number = digits.format(number).as_bytes();
     match node {
         Node::Leaf(leaf) => put_leaf(k, waiting, model, number, *leaf),
-        Node::Branch { var, kids } => {
-            put_all(k, waiting, &[number, b" branch ", var_name(model, *var)])?;
-            put_kids(k, waiting, kids)?;
-            put(k, waiting, b"\n")
-        }
+        Node::Branch { var, kids } => put_branch(k, waiting, number, var_name(model, *var), kids),
     }
 }
 
-/// Writes the line of a leaf behind its number.
+/// Writes the line of a leaf: its number, and a number of units or the name of an action.
 fn put_leaf<K: Sink>(
     k: &mut K,
     waiting: &mut Waiting,
@@ -65,16 +61,42 @@ fn put_leaf<K: Sink>(
 ) -> Result<(), Failed>
     ensures { Writes (shown K.taken K.faults K.name k.old) waiting.old (line (number.now ∷ codes "leaf" ∷ leaf_text model.now leaf ∷ [])) result (shown K.taken K.faults K.name k.new) waiting.new }
 {
-    let mut units = [0; 64];
-    let text = match leaf {
+    match leaf {
         Leaf::Num(n) => {
+            let mut units = [0; 64];
             let len = put_units(n, 9, &mut units);
-            &units[..len]
+            put_leaf_text(k, waiting, number, &units[..len])
         }
-        Leaf::Pair(_, _) => b"",
-        Leaf::Act(action) => action_name(model, action),
-    };
+        Leaf::Pair(_, _) => put_leaf_text(k, waiting, number, b""),
+        Leaf::Act(action) => put_leaf_text(k, waiting, number, action_name(model, action)),
+    }
+}
+
+/// Writes the line of a leaf with this text.
+fn put_leaf_text<K: Sink>(
+    k: &mut K,
+    waiting: &mut Waiting,
+    number: &[u8],
+    text: &[u8],
+) -> Result<(), Failed>
+    ensures { Writes (shown K.taken K.faults K.name k.old) waiting.old (line (number.now ∷ codes "leaf" ∷ text.now ∷ [])) result (shown K.taken K.faults K.name k.new) waiting.new }
+{
     put_all(k, waiting, &[number, b" leaf ", text, b"\n"])
+}
+
+/// Writes the line of a branch: its number, its variable, and the numbers of its kids.
+fn put_branch<K: Sink>(
+    k: &mut K,
+    waiting: &mut Waiting,
+    number: &[u8],
+    var: &[u8],
+    kids: &[u32],
+) -> Result<(), Failed>
+    ensures { Writes (shown K.taken K.faults K.name k.old) waiting.old (line (number.now ∷ codes "branch" ∷ var.now ∷ map decimal kids.now)) result (shown K.taken K.faults K.name k.new) waiting.new }
+{
+    put_all(k, waiting, &[number, b" branch ", var])?;
+    put_kids(k, waiting, kids)?;
+    put(k, waiting, b"\n")
 }
 
 /// Writes the numbers of a branch's kids, each behind a space.
@@ -83,7 +105,8 @@ fn put_kids<K: Sink>(k: &mut K, waiting: &mut Waiting, kids: &[u32]) -> Result<(
 {
     for kid in kids {
         let mut digits = Buffer::new();
-        put_all(k, waiting, &[b" ", digits.format(*kid).as_bytes()])?;
+        let number = digits.format(*kid).as_bytes();
+        put_all(k, waiting, &[b" ", number])?;
     }
     Ok(())
 }

@@ -1,11 +1,12 @@
 //! The text of a result.
-ghost use Rattle.std.specs.Prelude.{◌≡◌, ◌++◌, [], ◌∷◌, length, codes, decimal};
+ghost use Rattle.std.specs.Prelude.{◌≡◌, length, decimal};
 ghost use Rattle.hex.specs.Hex.{encode_lower};
-ghost use Rattle.spd_model.specs.ResultText.{text_of, line, units, why_text, side_text, state_words, action_name as action_text, nodes_text, var_name as var_text};
+ghost use Rattle.spd_model.specs.ResultText.{text_of, units, why_text, state_words};
 ghost use Rattle.spd_frozen.specs.Fits.{FitsModel};
 ghost use Rattle.spd_frozen.specs.Told.{told};
 ghost use Rattle.spd_text.specs.Writing.{Wrote, Counted};
-ghost use Rattle.spd_text.specs.inner.Pieces.{shown, spaced, leaf_text, Writes};
+ghost use Rattle.spd_text.specs.inner.Pieces.{shown, spaced, Writes};
+ghost use Rattle.spd_text.specs.inner.Parts.{head_text, end_words, end_text, top_text};
 
 use crate::names::{action_name, side_word, value_name, why_word};
 use crate::nodes::put_nodes;
@@ -36,13 +37,45 @@ pub fn write_result<K: Sink>(
     ensures named { K.name k.new ≡ K.name k.old }
 {
     let mut waiting = Waiting::new();
-    put_head(k, &mut waiting, digest, iterate, why)?;
-    put_state(k, &mut waiting, model, &iterate.residual.at)?;
-    put_residual_end(k, &mut waiting, model, &iterate.residual, iterate.error)?;
-    put_nodes(k, &mut waiting, model, b"value", &iterate.value)?;
-    put_nodes(k, &mut waiting, model, b"policy", &iterate.policy)?;
-    put(k, &mut waiting, b"end\n")?;
+    put_result(k, &mut waiting, model, digest, iterate, why)?;
     waiting.flush(k)
+}
+
+/// Writes the text of a result, or lets its end wait.
+fn put_result<K: Sink>(
+    k: &mut K,
+    waiting: &mut Waiting,
+    model: &Model,
+    digest: &[u8; 32],
+    iterate: &Iterate,
+    why: Why,
+) -> Result<(), Failed>
+    requires { FitsModel model.now iterate.now }
+    ensures { Writes (shown K.taken K.faults K.name k.old) waiting.old (text_of digest.now model.now why (told iterate.now)) result (shown K.taken K.faults K.name k.new) waiting.new }
+{
+    put_top(k, waiting, model, digest, iterate, why)?;
+    put_nodes(k, waiting, model, b"value", &iterate.value)?;
+    put_nodes(k, waiting, model, b"policy", &iterate.policy)?;
+    put(k, waiting, b"end\n")
+}
+
+/// Writes the lines before the nodes.
+fn put_top<K: Sink>(
+    k: &mut K,
+    waiting: &mut Waiting,
+    model: &Model,
+    digest: &[u8; 32],
+    iterate: &Iterate,
+    why: Why,
+) -> Result<(), Failed>
+    requires { length iterate.now.residual.at ≡ length model.now.vars }
+    ensures { Writes (shown K.taken K.faults K.name k.old) waiting.old
+        (top_text digest.now model.now why iterate.now)
+        result (shown K.taken K.faults K.name k.new) waiting.new }
+{
+    put_head(k, waiting, digest, iterate, why)?;
+    put_state(k, waiting, model, &iterate.residual.at)?;
+    put_end(k, waiting, model, &iterate.residual, iterate.error)
 }
 
 /// Writes the lines before the place of the residual, and the first word of that line.
@@ -54,18 +87,16 @@ fn put_head<K: Sink>(
     why: Why,
 ) -> Result<(), Failed>
     ensures { Writes (shown K.taken K.faults K.name k.old) waiting.old
-        (line (codes "spd result 2" ∷ []) ++ line (codes "model" ∷ encode_lower digest.now ∷ []) ++ line (codes "status" ∷ why_text why ∷ [])
-        ++ line (codes "turn" ∷ decimal iterate.now.turn ∷ []) ++ line (codes "residual" ∷ units iterate.now.residual.r ∷ []) ++ codes "at")
+        (head_text (encode_lower digest.now) (why_text why) (decimal iterate.now.turn) (units iterate.now.residual.r))
         result (shown K.taken K.faults K.name k.new) waiting.new }
 {
-    let mut hexadecimal = [0; 64];
-    let _ = encode_to_slice(digest.as_slice(), &mut hexadecimal);
+    let digest = hexadecimal(digest);
     let mut digits = Buffer::new();
     let mut residual = [0; 64];
     let len = put_units(iterate.residual.r, 9, &mut residual);
     let pieces: [&[u8]; 9] = [
         b"spd result 2\nmodel ",
-        &hexadecimal,
+        &digest,
         b"\nstatus ",
         why_word(why),
         b"\nturn ",
@@ -95,7 +126,7 @@ fn put_state<K: Sink>(
 }
 
 /// Writes the side and the action of a residual, and the line of the error.
-fn put_residual_end<K: Sink>(
+fn put_end<K: Sink>(
     k: &mut K,
     waiting: &mut Waiting,
     model: &Model,
@@ -103,19 +134,40 @@ fn put_residual_end<K: Sink>(
     error: i128,
 ) -> Result<(), Failed>
     ensures { Writes (shown K.taken K.faults K.name k.old) waiting.old
-        (spaced (side_text residual.now.side ∷ action_text model.now residual.now.action ∷ []) ++ 10 ∷ [] ++ line (codes "error" ∷ units error ∷ []))
+        (end_text model.now residual.now error)
         result (shown K.taken K.faults K.name k.new) waiting.new }
 {
+    let side = side_word(residual.side);
+    let action = action_name(model, residual.action);
     let mut units = [0; 64];
     let len = put_units(error, 9, &mut units);
-    let pieces: [&[u8]; 7] = [
-        b" ",
-        side_word(residual.side),
-        b" ",
-        action_name(model, residual.action),
-        b"\nerror ",
-        &units[..len],
-        b"\n",
-    ];
-    put_all(k, waiting, &pieces)
+    put_words(k, waiting, side, action, &units[..len])
+}
+
+/// Writes these words for the side, the action and the error.
+fn put_words<K: Sink>(
+    k: &mut K,
+    waiting: &mut Waiting,
+    side: &[u8],
+    action: &[u8],
+    error: &[u8],
+) -> Result<(), Failed>
+    ensures { Writes (shown K.taken K.faults K.name k.old) waiting.old
+        (end_words side.now action.now error.now)
+        result (shown K.taken K.faults K.name k.new) waiting.new }
+{
+    put_all(
+        k,
+        waiting,
+        &[b" ", side, b" ", action, b"\nerror ", error, b"\n"],
+    )
+}
+
+/// The 64 hexadecimal digits of a digest, in lower case.
+fn hexadecimal(digest: &[u8; 32]) -> [u8; 64]
+    ensures { result ≡ encode_lower digest.now }
+{
+    let mut text = [0; 64];
+    let _ = encode_to_slice(digest.as_slice(), &mut text);
+    text
 }

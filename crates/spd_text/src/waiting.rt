@@ -1,6 +1,6 @@
 //! Bytes that wait to be written, so that not each word of a text is a write of its own.
 ghost use Rattle.std.specs.Prelude.{◌≡◌, ◌+◌, ◌≤◌, [], ◌++◌, length};
-ghost use Rattle.spd_text.specs.inner.Pieces.{shown, joined, Writes};
+ghost use Rattle.spd_text.specs.inner.Pieces.{shown, text_of_pieces, Writes};
 
 use spd_edge::{Failed, Sink, write_all_of};
 use std::marker::Model;
@@ -81,7 +81,7 @@ pub(crate) fn put_all<K: Sink>(
     waiting: &mut Waiting,
     pieces: &[&[u8]],
 ) -> Result<(), Failed>
-    ensures { Writes (shown K.taken K.faults K.name k.old) waiting.old (joined pieces.now) result (shown K.taken K.faults K.name k.new) waiting.new }
+    ensures { Writes (shown K.taken K.faults K.name k.old) waiting.old (text_of_pieces pieces.now) result (shown K.taken K.faults K.name k.new) waiting.new }
 {
     for piece in pieces {
         put(k, waiting, piece)?;

@@ -19,7 +19,7 @@ spudd: near-optimal values and policies of factored Markov decision processes
 
 Exit status: 0 done, 2 wrong words, 3 a file can't be opened or read, 4 a file is too long,
 5 a file is refused, 6 probabilities don't sum to one, 7 a reward is too large,
-8 turn limit reached, 12 the result can't be written, 14 out of memory.
+8 turn limit reached, 12 the result can't be written, 13 too many states, 14 out of memory.
 docs/FORMAT.md explains the model file and the result.
 ";
 
@@ -65,7 +65,7 @@ fn page(words: &[Word]) -> Option<&'static str> {
 /// Runs the command of the words on the system's files, and says how it ended.
 fn run(rt: HostRuntime, words: &[Word]) -> Status {
     let mut place = RealPlace::new(rt);
-    let mut output: StdOut = WriterOut::new(rt.stdout());
+    let mut output: StdOut = WriterOut::new(Vec::new(rt.alloc()), rt.stdout());
     solve_run(rt.alloc(), words, &mut place, &mut output)
 }
 
@@ -80,7 +80,7 @@ fn main(rt: HostRuntime) -> ExitCode {
         },
         Err(AllocError) => Status::Memory,
     };
-    let mut errors: StdErr = WriterOut::new(rt.stderr());
+    let mut errors: StdErr = WriterOut::new(Vec::new(rt.alloc()), rt.stderr());
     // Where the message can't be written, the status stays the same.
     let _ = write_message(&status, &mut errors);
     ExitCode::from(number(&status))

@@ -1,6 +1,5 @@
 -- The unique table of a list of nodes, and what building a diagram adds to it.
 use Rattle.std.specs.Prelude.{◌≡◌, ℕ, suc, ◌<◌, List, [], ◌∷◌, length, map, slice_index_or, pos, Result, IfOk, All, Contains, Vec}
-use Rattle.std.specs.declared.alloc.AllocError.{AllocError}
 use Rattle.spd_model.specs.declared.process.Var.{Var}
 use Rattle.spd_model.specs.Reduced.{Diagram, Subtrees, none, also, subtrees_of, Node, with_node, nodes_after, nodes_after_all, node_number, reduced_from}
 use Rattle.spd_nodes.specs.Trees.{leaf_eq}

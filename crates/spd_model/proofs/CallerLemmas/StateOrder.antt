@@ -93,11 +93,6 @@ get_or-states [] (v ∷ s) h = absurd h
 get_or-states (size ∷ sizes) [] h = absurd h
 get_or-states (size ∷ sizes) (v ∷ s) h = get_or-starting_below sizes s h.1 (get_or-states sizes s h.1) size v h.0
 
--- a table has the function's value at each state
-pub at-table_of : (sizes s : List ℕ) (f : List ℕ → ℤ) → IsState sizes s → at sizes (table_of sizes f) s ≡ f s
-at-table_of sizes s f h =
-    get_or-map f (states sizes) (rank sizes s) [] (pos 0) (omega (arith, rank_below sizes s h, length-states sizes)) ∙ ap f (get_or-states sizes s h)
-
 some_left : (a b k : ℕ) → k < a * b → 0 < b
 some_left a zero k h = absurd (omega arith)
 some_left a (suc b) k h = omega arith
@@ -153,21 +148,9 @@ All-table_of P sizes f h = All-map P f (states sizes) (All-states (λ s. P (f s)
 pub All-table_of_back : {X : Type 0} (P : X → Type 0) (sizes : List ℕ) (f : List ℕ → X) → All P (table_of sizes f) → (s : List ℕ) → IsState sizes s → P (f s)
 All-table_of_back P sizes f h = All-states_back (λ s. P (f s)) sizes (All-map_back P f (states sizes) h)
 
--- functions that agree at each state have one table
-pub table_of-cong : {X : Type 0} (sizes : List ℕ) (f g : List ℕ → X) → ((s : List ℕ) → IsState sizes s → f s ≡ g s) → table_of sizes f ≡ table_of sizes g
-table_of-cong sizes f g h = images (states sizes) (All-states (λ s. f s ≡ g s) sizes h)
-  where
-    images : (xs : List (List ℕ)) → All (λ s. f s ≡ g s) xs → map f xs ≡ map g xs
-    images [] same = refl
-    images (x ∷ xs) same = λ i. All-head (λ s. f s ≡ g s) x xs same i ∷ images xs (All-tail (λ s. f s ≡ g s) x xs same) i
-
 -- a state is the one of its rank
 pub state_at-rank : (sizes s : List ℕ) → IsState sizes s → state_at sizes (rank sizes s) ≡ s
 state_at-rank sizes s is = sym (get_or-states_at sizes (rank sizes s) (rank_below sizes s is)) ∙ get_or-states sizes s is
-
-pub rank_injective : (sizes s t : List ℕ) → IsState sizes s → IsState sizes t → rank sizes s ≡ rank sizes t → s ≡ t
-rank_injective sizes s t is there same =
-    sym (state_at-rank sizes s is) ∙ ap (λ (k : ℕ). state_at sizes k) same ∙ state_at-rank sizes t there
 
 -- the state that stands at a place in the order
 pub slice_get-states : (sizes s : List ℕ) → IsState sizes s → slice_get (states sizes) (rank sizes s) ≡ Some s

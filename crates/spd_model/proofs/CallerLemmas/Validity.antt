@@ -3,7 +3,7 @@ use Rattle.std.proofs.Common.{◌≡◌, ℕ, ◌<◌, ◌≤◌, Bool, true, fa
 use Rattle.std.specs.Prelude.{Some, None}
 use Rattle.std.specs.List.{enumerate_from}
 use Rattle.std.specs.Ordering.{int_eq}
-use Rattle.std.proofs.lemmas.Bool.{false≢true, le-leb}
+use Rattle.std.proofs.lemmas.Bool.{false≢true, le-leb, not-false}
 use Rattle.std.proofs.lemmas.Bool.Decides.{nat_tests}
 use Rattle.std.proofs.lemmas.List.Elements.{All-map, All-contains}
 use Rattle.spd_scaled.proofs.CallerLemmas.Ring.{int_eq-true, int_eq-holds}
@@ -79,10 +79,6 @@ module _ (m : Process) (P : Reward → Type 0) where
 
 -- ---- validity
 
-not_false : (b : Bool) → not b ≡ false → b ≡ true
-not_false true h = refl
-not_false false h = absurd (false≢true (sym h))
-
 small_enough : (x : ℕ) → nat_le x reward_limit ≡ true → x ≤ reward_limit
 small_enough x h = grind (arith, nat_tests)
 
@@ -91,10 +87,10 @@ is_valid m law no_sum no_reward = record {
   chances = λ a offered i near s rest state after v below.
       probability_nonnegative m a (All-contains (IsAction m) m.actions a law.actions offered) s i v rest near;
   sums = λ a offered i near s rest state after.
-      int_eq-true _ _ (not_false _ (All-sums_back m (λ x. not (int_eq x.sum one) ≡ false) (find_none (λ (x : Sum). not (int_eq x.sum one)) (sums_of m) no_sum)
+      int_eq-true _ _ (not-false _ (All-sums_back m (λ x. not (int_eq x.sum one) ≡ false) (find_none (λ (x : Sum). not (int_eq x.sum one)) (sums_of m) no_sum)
       a offered i near s rest state after));
   rewards = λ a offered s state.
-      small_enough _ (not_false _ (All-rewards_back m (λ x. not (nat_le (unsigned_abs x.value) reward_limit) ≡ false)
+      small_enough _ (not-false _ (All-rewards_back m (λ x. not (nat_le (unsigned_abs x.value) reward_limit) ≡ false)
       (find_none (λ (x : Reward). not (nat_le (unsigned_abs x.value) reward_limit)) (rewards_of m) no_reward) a offered s state));
 }
 

@@ -56,20 +56,9 @@ ceil_div_unique n d q p high low =
 pub floor_div_mono : (m n d : ℤ) → pos 0 <ℤ d → m ≤ℤ n → floor_div m d ≤ℤ floor_div n d
 floor_div_mono m n d p h = let low = floor_div_at_most m d p in floor_div_greatest n d (floor_div m d) p (omega (arith, ints))
 
-pub ceil_div_mono : (m n d : ℤ) → pos 0 <ℤ d → m ≤ℤ n → ceil_div m d ≤ℤ ceil_div n d
-ceil_div_mono m n d p h = let high = ceil_div_at_least n d p in ceil_div_least m d (ceil_div n d) p (omega (arith, ints))
-
 pub floor_div-≤ℤ-ceil_div : (n d : ℤ) → pos 0 <ℤ d → floor_div n d ≤ℤ ceil_div n d
 floor_div-≤ℤ-ceil_div n d p =
     let low = floor_div_at_most n d p in ceil_div_greatest n d (floor_div n d) p (omega (arith, ints))
-
--- ---- multiples of the divisor
-
-pub floor_div_multiple : (q d : ℤ) → pos 0 <ℤ d → floor_div (q *ℤ d) d ≡ q
-floor_div_multiple q d p = sym (floor_div_unique (q *ℤ d) d q p (omega (arith, ints)) (omega (arith, ints)))
-
-pub ceil_div_multiple : (q d : ℤ) → pos 0 <ℤ d → ceil_div (q *ℤ d) d ≡ q
-ceil_div_multiple q d p = sym (ceil_div_unique (q *ℤ d) d q p (omega (arith, ints)) (omega (arith, ints)))
 
 -- ---- magnitude: a number within c times the divisor has a quotient within c
 

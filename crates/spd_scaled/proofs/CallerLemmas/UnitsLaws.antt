@@ -15,9 +15,9 @@ length-last_digits zero n = refl
 length-last_digits (suc count) n =
     omega (arith, length-append (last_digits count (n / 10)) ((48 + n % 10) ∷ []), length-last_digits count (n / 10))
 
-power_above : (count : ℕ) → 0 < 10 ^ count
-power_above zero = omega arith
-power_above (suc count) = omega (arith, pow-suc 10 count, power_above count)
+pub ten_above : (count : ℕ) → 0 < 10 ^ count
+ten_above zero = omega arith
+ten_above (suc count) = omega (arith, pow-suc 10 count, ten_above count)
 
 -- a last digit d below the digits of a
 digit_split : (a d : ℕ) → d < 10 → ((a * 10 + d) / 10 ≡ a) × ((a * 10 + d) % 10 ≡ d)
@@ -29,7 +29,7 @@ decimal-last_digits zero n h = let one : 10 ^ 0 + n % 10 ^ 0 ≡ 1 = omega arith
 decimal-last_digits (suc count) n h =
     let front = 10 ^ count + n / 10 % 10 ^ count in
     let whole : 10 ^ suc count + n % 10 ^ suc count ≡ front * 10 + n % 10 = digits_shift count n in
-    let above = power_above count in
+    let above = ten_above count in
     let digits = digit_split front (n % 10) (omega arith) in
     let small : front < 2 * 10 ^ count = omega (arith, less_than_power count (n / 10)) in
     rw whole (
@@ -38,11 +38,11 @@ decimal-last_digits (suc count) n h =
     )
   where
     less_than_power : (count n : ℕ) → n % 10 ^ count < 10 ^ count
-    less_than_power count n = mod-lt n (power_above count)
+    less_than_power count n = mod-lt n (ten_above count)
 
     digits_shift : (count n : ℕ) → 10 ^ suc count + n % 10 ^ suc count ≡ (10 ^ count + n / 10 % 10 ^ count) * 10 + n % 10
     digits_shift count n =
-        let split = mod-mul n {m = 10 ^ count} {c = 10} (power_above count) (omega arith) in rw (pow-suc 10 count) (omega (arith, split))
+        let split = mod-mul n {m = 10 ^ count} {c = 10} (ten_above count) (omega arith) in rw (pow-suc 10 count) (omega (arith, split))
 
 -- what the code writes: all but the 1 of a 1 and the last digits
 pub padded_text : (places n one : ℕ) (bytes : List ℕ) → (places ≡ 9) ⊎ (places ≡ 12) → one ≡ 10 ^ places → bytes ≡ decimal (one + n % one) → bytes ≡ 49 ∷ last_digits places n
@@ -54,12 +54,6 @@ padded_text places n one bytes few e text = text ∙ rw e (decimal-last_digits p
 
 pub without_first : (first : ℕ) (bytes rest : List ℕ) → bytes ≡ first ∷ rest → take (length bytes - 1) (drop 1 bytes) ≡ rest
 without_first first bytes rest e = rw e (let all : suc (length rest) - 1 ≡ length rest = omega arith in rw all (take_all (length rest) rest (omega arith)))
-
--- ---- how long a text is
-
-pub length-units_text : (places : ℕ) (n : ℤ) → length (units_text places n) ≡ length (sign_text n) + length (decimal (unsigned_abs n / 10 ^ places)) + 1 + places
-length-units_text places n =
-    simp length-append (omega (arith, length-last_digits places (unsigned_abs n)))
 
 -- ---- what a reader of the text finds
 
@@ -74,7 +68,7 @@ AllDigits-last_digits (suc count) n =
 pub digits_value-last_digits : (count n : ℕ) → digits_value 10 (last_digits count n) ≡ n % 10 ^ count
 digits_value-last_digits zero n = omega arith
 digits_value-last_digits (suc count) n =
-    let split = mod-mul n {m = 10 ^ count} {c = 10} (power_above count) (omega arith) in
+    let split = mod-mul n {m = 10 ^ count} {c = 10} (ten_above count) (omega arith) in
     let last = digit_value_is (n % 10) (omega arith) in
     let push = digits_value_push 10 (last_digits count (n / 10)) (48 + n % 10) in
     let rest = digits_value-last_digits count (n / 10) in

@@ -296,6 +296,7 @@ fn read_model(alloc: Global, bytes: &[u8]) -> Result<Model, Unread>
         reward,
         discount,
         tolerance,
+        horizon: None,
     })
 }
 

@@ -11,7 +11,7 @@ use crate::small::unread::Unread;
 use spd_model::Name;
 
 /// The words of the grammar, which are no names.
-const RESERVED: [&[u8]; 9] = [
+const RESERVED: [&[u8]; 10] = [
     b"variables",
     b"dd",
     b"enddd",
@@ -21,6 +21,7 @@ const RESERVED: [&[u8]; 9] = [
     b"reward",
     b"discount",
     b"tolerance",
+    b"horizon",
 ];
 
 fn is_among(word: &[u8], words: &[&[u8]]) -> bool

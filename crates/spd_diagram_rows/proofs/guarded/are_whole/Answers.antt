@@ -1,7 +1,7 @@
-use Rattle.std.proofs.Common.{◌∙◌, arith}
+use Rattle.std.proofs.Common.{◌∙◌, arith, subst, All}
+use Rattle.std.proofs.lemmas.List.{take_all}
 use Rattle.std.proofs.lemmas.List.Elements.{All-more}
 use Rattle.spd_nodes.specs.Shown.{IsWhole}
-use Rattle.spd_diagram_rows.proofs.ReadingLaws.{all-taken}
 use Rattle.spd_diagram_rows.proofs.guarded.are_whole.Goals as goal
 
 pub loop-kid-preserved : goal.loop-kid-preserved
@@ -15,4 +15,4 @@ loop-kid-preserved g c =
     }
 
 pub returns-clause-whole : goal.returns-clause-whole
-returns-clause-whole g c t = all-taken (λ k. IsWhole (g.F.Forest.shows c.args.forest.now) k) c.args.kids.now c.loop-kid.kid-index (omega arith) c.loop-kid.invariant.whole
+returns-clause-whole g c t = subst (λ ks. All (λ k. IsWhole (g.F.Forest.shows c.args.forest.now) k) ks) (take_all c.loop-kid.kid-index c.args.kids.now (omega arith)) c.loop-kid.invariant.whole

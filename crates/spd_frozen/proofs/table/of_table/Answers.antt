@@ -1,10 +1,10 @@
 use Rattle.spd_model.specs.Reduced.{Node}
 use Rattle.spd_nodes.specs.declared.leaf.Leaf.{Leaf}
-use Rattle.std.proofs.Common.{◌≡◌, List, refl, ap, sym, ◌∙◌, subst}
+use Rattle.std.proofs.Common.{◌≡◌, List, ap, sym, ◌∙◌, subst}
 use Rattle.spd_model.proofs.CallerLemmas.StateOrder.{sizes_some}
 use Rattle.spd_model.specs.Lawful.{IsLawful}
 use Rattle.spd_model.specs.States.{sizes}
-use Rattle.spd_frozen.specs.Frozen.{entry_at, frozen_of, IsFrozen, leaf_at, diagrams}
+use Rattle.spd_frozen.specs.Frozen.{entry_at, IsFrozen, leaf_at, diagrams}
 use Rattle.spd_frozen.specs.Fits.{FitsSizes}
 use Rattle.spd_frozen.specs.inner.Unique.{sizes_of}
 use Rattle.spd_frozen.proofs.FrozenLaws.{frozen-is, frozen-fits, frozen-leaf_at, table-list}

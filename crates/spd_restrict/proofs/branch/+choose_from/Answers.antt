@@ -10,7 +10,7 @@ returns-then-value-kids-clause-made g t c =
     last-made (g.F.Forest.shows c.args.forest.now) c.layout.ensures.sound c.args.var c.args.primed c.args.kids.now c.requires.known c.requires.whole c.requires.var c.requires.count (record { 0 = 0 }) c.args.value c.if-value-kids.true
 
 pub returns-in_err-rest-clause-made : goal.returns-in_err-rest-clause-made
-returns-in_err-rest-clause-made g t c = 
+returns-in_err-rest-clause-made g t c =
     let made = among-fails {g = chosen_from c.args.value c.args.var c.args.primed (map (meaning (g.F.Forest.shows c.args.forest.now)) c.args.kids.now)} c.in_err-rest.field-0.0 c.in_err-rest.ensures.made in
     search rules
 

@@ -1,5 +1,5 @@
 use Rattle.std.proofs.Common.{rules, arith, ◌≡◌, suc, ◌+◌, ◌-◌, ◌∙◌}
-use Rattle.spd_nodes.specs.Shown.{Shown, IsSound, MakesTree}
+use Rattle.spd_nodes.specs.Shown.{IsSound, MakesTree}
 use Rattle.spd_nodes.specs.Trees.{join}
 use Rattle.spd_apply.specs.Rules.{IsNodeAt}
 use Rattle.spd_restrict.specs.Replaced.{CanReplace}

@@ -1,5 +1,6 @@
 use Rattle.std.proofs.Common.{sym, arith}
-use Rattle.spd_scaled.proofs.DecimalUnits.{ten_above, ten_up, divided_by-none}
+use Rattle.spd_scaled.proofs.DecimalUnits.{ten_up, divided_by-none}
+use Rattle.spd_scaled.proofs.CallerLemmas.UnitsLaws.{ten_above}
 use Rattle.spd_scaled.proofs.unit.divided.Goals as goal
 
 pub returns-then-power-gt38 : goal.returns-then-power-gt38

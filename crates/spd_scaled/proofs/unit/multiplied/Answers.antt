@@ -1,5 +1,6 @@
 use Rattle.std.proofs.Common.{◌^◌, sym, arith}
-use Rattle.spd_scaled.proofs.DecimalUnits.{ten_above, ten_up, limited-product, limited-above, passes_quotient}
+use Rattle.spd_scaled.proofs.DecimalUnits.{ten_up, limited-product, limited-above, passes_quotient}
+use Rattle.spd_scaled.proofs.CallerLemmas.UnitsLaws.{ten_above}
 use Rattle.spd_scaled.proofs.unit.multiplied.Goals as goal
 
 pub returns-then-power-gt30 : goal.returns-then-power-gt30

@@ -1,12 +1,13 @@
 use Rattle.std.proofs.Common.{◌∙◌, arith}
-use Rattle.spd_solver.proofs.Writing.{on_err, Took-more, TookFront-after}
+use Rattle.std.proofs.lemmas.Result.{MatchResult-from_err}
+use Rattle.spd_solver.proofs.Writing.{Took-more, TookFront-after}
 use Rattle.spd_solver.proofs.pieces.write_pieces.Goals as goal
 
-pub returns-in_err-write_all_of-clause-front : goal.returns-in_err-write_all_of-clause-front
-returns-in_err-write_all_of-clause-front g c =
+pub returns-in_err-write_all_of-clause-text : goal.returns-in_err-write_all_of-clause-text
+returns-in_err-write_all_of-clause-text g c =
     let front = c.in_err-write_all_of.ensures.prefix in
-    on_err c.from_residual.result
-    (TookFront-after _ _ _ c.args.pieces.now c.loop-piece.piece-index _ c.loop-piece-test.true c.loop-piece.invariant.0 (front.0, omega (arith, front.1), front.2))
+    MatchResult-from_err c.from_residual.result _ _ c.from_residual.ensures.0 (λ _.
+    TookFront-after _ _ _ c.args.pieces.now c.loop-piece.piece-index _ c.loop-piece-test.true c.loop-piece.invariant.0 (front.0, omega (arith, front.1), front.2))
 
 pub loop-piece-preserved : goal.loop-piece-preserved
 loop-piece-preserved g c =

@@ -1,6 +1,6 @@
 use Rattle.std.proofs.Common.{◌≡◌, take}
 use Rattle.spd_edge.specs.Told.{Took}
-use Rattle.spd_solver.specs.Pieces.{joined}
+use Rattle.spd_solver.proofs.Writing.{joined}
 use Rattle.spd_solver.proofs.pieces.write_pieces.Given as goal
 
 abbrev pub invariant-loop-piece : goal.invariant-loop-piece

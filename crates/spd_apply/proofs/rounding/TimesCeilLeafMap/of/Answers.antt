@@ -1,5 +1,4 @@
-use Rattle.std.proofs.Common.{◌≡◌, rules, true, ◌*ℤ◌, FitsSigned, ap}
-use mir.Syntax.{w128}
+use Rattle.std.proofs.Common.{◌≡◌, rules, true, ◌*ℤ◌}
 use Rattle.std.proofs.lemmas.Int.{to_z-of_z}
 use Rattle.spd_apply.specs.Operations.{in_i128}
 use Rattle.spd_apply.specs.Rounding.{times_fits}

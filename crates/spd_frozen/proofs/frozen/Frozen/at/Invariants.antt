@@ -1,4 +1,4 @@
-use Rattle.std.proofs.Common.{◌≡◌, ◌<◌, length, pos, slice_index_or}
+use Rattle.std.proofs.Common.{◌≡◌, ◌<◌, length}
 use Rattle.spd_frozen.specs.Nodes.{all_shown}
 use Rattle.spd_frozen.specs.Frozen.{diagrams, leaf_at, reached}
 use Rattle.spd_frozen.proofs.Reading.{kid_at}

@@ -13,6 +13,6 @@ pub returns : goal.returns
 returns c =
     let all : IfOk c.collect.result (λ v. v.items ≡ c.self.inside.set.keys) = search rules in
     IfOk-weaker c.collect.result (λ v. v.items ≡ c.self.inside.set.keys) (λ v. all_shown v.items ≡ map (node_of leaf_eq (diagrams c.args.self)) (diagrams c.args.self))
-      (λ v e. ap all_shown e ∙ nodes-back (all_shown c.self.inside.set.keys) c.self.invariant
-        ∙ ap (λ (nodes : List (Node Leaf)). map (node_of leaf_eq (diagrams nodes)) (diagrams nodes)) c.self.view_is)
-      all
+    (λ v e. ap all_shown e ∙ nodes-back (all_shown c.self.inside.set.keys) c.self.invariant
+    ∙ ap (λ (nodes : List (Node Leaf)). map (node_of leaf_eq (diagrams nodes)) (diagrams nodes)) c.self.view_is)
+    all

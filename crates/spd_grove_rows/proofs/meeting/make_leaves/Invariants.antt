@@ -1,0 +1,6 @@
+use Rattle.std.proofs.Common.{◌≡◌}
+use Rattle.spd_nodes.specs.Shown.{Grows}
+use Rattle.spd_grove_rows.proofs.meeting.make_leaves.Given as goal
+
+abbrev pub invariant-loop-number : goal.invariant-loop-number
+invariant-loop-number g l = Grows (g.F.Forest.shows l.initial.forest) (g.F.Forest.shows l.forest) × (g.F.Forest.kept l.forest ≡ g.F.Forest.kept l.initial.forest)

@@ -1,0 +1,90 @@
+-- What solving the process of a model file means, and why it is refused.
+use Rattle.std.specs.Prelude.{ℕ, ◌<◌, ◌≤◌, ◌≡◌, List, length, ℤ, Some, None}
+use Rattle.std.specs.List.{join_with_byte}
+use Rattle.sha2.specs.Sha256.{sha256}
+use Rattle.spd_model.specs.declared.Why.TheVariants as Why
+use Rattle.spd_model.specs.Process.{Process}
+use Rattle.spd_model.specs.States.{sizes, state_count}
+use Rattle.spd_model.specs.Chances.{IsValid, Sum, first_wrong_sum, Reward, first_wide_reward}
+use Rattle.spd_model.specs.Turns.{residual_of, stop_of, stop_value}
+use Rattle.spd_model.specs.ResultText.{action_name, var_name, state_words, result_text}
+use Rattle.spd_plain.specs.Space.{state_limit, first_large_product}
+use Rattle.spd_bellman.specs.Bound.{IsNearOptimal}
+use Rattle.spd_model.specs.declared.options.Options.{Options}
+use Rattle.spd_solver.specs.declared.status.Status.{Status}
+use Rattle.spd_solver.specs.declared.status.Status.TheVariants.{Done, Refused, TooManyStates, Sum as WrongSum, Range as WideReward, TurnLimit, Memory}
+use Rattle.spd_solver.specs.Describes.{Describes}
+
+-- the most bytes that a model file may have
+abbrev pub file_limit : ℕ
+file_limit = 4194304
+
+-- the bytes are a file of this process: no longer than a file may be, and in the grammar
+pub record IsFileOf (bytes : List ℕ) (m : Process) : Type 0 where
+  pub short : length bytes ≤ file_limit
+  pub describes : Describes bytes m
+
+-- ---- what is solved
+
+-- the value at which the run of a process stops, by state, and its residual
+abbrev pub value : Process → Options → List ℕ → ℤ
+value m options = stop_value m options.turns options.span
+
+abbrev pub residual : Process → Options → ℤ
+residual m options = residual_of m (value m options)
+
+-- The status tells why the run stopped: done where the stop rule holds at its turn; else it is the turn limit's, with the residual.
+abbrev pub TellsStop : Process → Options → Status → Type 0
+TellsStop m options Done = (stop_of m options.turns options.span).why ≡ Why.Done
+TellsStop m options (TurnLimit r) = ((stop_of m options.turns options.span).why ≡ Why.Limit) × (r ≡ residual m options)
+TellsStop m options _ = ⊥
+
+-- The process of a file is solved: it is valid, the status tells why its run stopped, the text is that of the result, and the value
+-- and the policy in that text are optimal up to the residual over one minus the discount: for every state, course of action and
+-- number of steps.
+pub record IsSolved (bytes : List ℕ) (options : Options) (status : Status) (text : List ℕ) : Type 0 where
+  pub process : Process
+  pub file : IsFileOf bytes process
+  pub valid : IsValid process
+  pub stop : TellsStop process options status
+  pub written : text ≡ result_text (sha256 bytes) process options.turns options.span
+  pub near_optimal : IsNearOptimal process (value process options)
+
+-- ---- what is refused
+
+-- a process of no more states than tables are made of
+abbrev pub HasFewStates : Process → Type 0
+HasFewStates m = state_count (sizes m) ≤ state_limit
+
+-- a state in words, parted by spaces
+abbrev pub state_text : Process → List ℕ → List ℕ
+state_text m s = join_with_byte 32 (state_words m s)
+
+-- the parts of a message on a sum, and of one on a reward, in words
+pub record Tells (m : Process) (x : Sum) (action var state : List ℕ) (sum : ℤ) : Type 0 where
+  pub action_is : action ≡ action_name m x.action
+  pub var_is : var ≡ var_name m x.var
+  pub state_is : state ≡ state_text m x.state
+  pub sum_is : sum ≡ x.sum
+
+pub record TellsReward (m : Process) (x : Reward) (action state : List ℕ) (value : ℤ) : Type 0 where
+  pub action_is : action ≡ action_name m x.action
+  pub state_is : state ≡ state_text m x.state
+  pub value_is : value ≡ x.value
+
+-- Why a process isn't solved, in this order: it has more states than tables are made of, its first sum of probabilities that isn't
+-- one, its first reward that passes the limit. Want of memory has no cause in the process.
+abbrev pub RefusesProcess : Process → Status → Type 0
+RefusesProcess m (TooManyStates product) = (state_limit < state_count (sizes m)) × (first_large_product m ≡ Some product)
+RefusesProcess m (WrongSum action var state sum) =
+    (x : Sum) × HasFewStates m × (first_wrong_sum m ≡ Some x) × Tells m x action var state sum × (IsValid m → ⊥)
+RefusesProcess m (WideReward action state reward) =
+    (x : Reward) × HasFewStates m × (first_wrong_sum m ≡ None) × (first_wide_reward m ≡ Some x) × TellsReward m x action state reward
+    × (IsValid m → ⊥)
+RefusesProcess m Memory = Unit {0}
+RefusesProcess m _ = ⊥
+
+-- why a file that isn't too long isn't solved: it describes no process, or its process is refused
+abbrev pub RefusesFile : List ℕ → Status → Type 0
+RefusesFile bytes Refused = (length bytes ≤ file_limit) × ((m : Process) → Describes bytes m → ⊥)
+RefusesFile bytes status = (m : Process) × IsFileOf bytes m × RefusesProcess m status

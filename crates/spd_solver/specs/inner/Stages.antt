@@ -1,0 +1,103 @@
+-- The stages of a command: what each gives, why it fails, and the status of each failure.
+use Rattle.std.specs.Prelude.{ℕ, zero, suc, ◌<◌, ◌≡◌, List, [], ◌++◌, length, codes, Option, Some, IfSome, Result, Ok, Err}
+use Rattle.spd_edge.specs.Counts.{Rose}
+use Rattle.spd_edge.specs.Direction.{Direction}
+use Rattle.spd_edge.specs.declared.outside.Stage.TheVariants as Stage
+use Rattle.spd_model.specs.declared.Why.TheVariants as Why
+use Rattle.spd_model.specs.declared.process.Var.{Var}
+use Rattle.spd_model.specs.Process.{Process}
+use Rattle.spd_model.specs.Chances.{IsValid}
+use Rattle.spd_model.specs.Turns.{stop_of}
+use Rattle.spd_model.specs.ResultText.{action_name, var_name, value_name, result_of}
+use Rattle.spd_bellman.specs.Bound.{IsNearOptimal}
+use Rattle.spd_plain.specs.declared.solve.PlainFault.{PlainFault}
+use Rattle.spd_plain.specs.declared.solve.PlainFault.TheVariants as Fault
+use Rattle.spd_frozen.specs.Fits.{FitsModel}
+use Rattle.spd_frozen.specs.Told.{told}
+use Rattle.spd_solver.specs.declared.solving.Solution.{Solution}
+use Rattle.spd_model.specs.declared.options.Options.{Options}
+use Rattle.spd_solver.specs.declared.command.Command.{Command as Said}
+use Rattle.spd_solver.specs.declared.command.Command.TheVariants.{Solve}
+use Rattle.spd_solver.specs.declared.file.Unreadable.{Unreadable}
+use Rattle.spd_solver.specs.declared.file.Unreadable.TheVariants as Unreadable
+use Rattle.spd_solver.specs.declared.small.unread.Unread.{Unread}
+use Rattle.spd_solver.specs.declared.small.unread.Unread.TheVariants as Unread
+use Rattle.spd_solver.specs.declared.solving.Unsolved.{Unsolved}
+use Rattle.spd_solver.specs.declared.solving.Unsolved.TheVariants as Unsolved
+use Rattle.spd_solver.specs.declared.status.Status.{Status}
+use Rattle.spd_solver.specs.declared.status.Status.TheVariants as Status
+use Rattle.spd_solver.specs.Command.{Command, solve}
+use Rattle.spd_solver.specs.Solve.{state_text, value}
+
+-- ---- words
+
+-- the command that the code reads from the words, and its options
+abbrev pub said : Said → Command
+said (Solve file options) = solve file.now options
+
+abbrev pub options_of : Said → Options
+options_of (Solve file options) = options
+
+-- ---- files
+
+-- why a file of at most `limit` bytes wasn't read
+abbrev pub FailsToRead : Direction → Direction → List ℕ → ℕ → Unreadable → Type 0
+FailsToRead before now name limit (Unreadable.Open n) =
+    (n ≡ name) × Rose (before.faults name) (now.faults name) × (now.stage name ≡ Some Stage.Unopened)
+FailsToRead before now name limit (Unreadable.Read n) =
+    (n ≡ name) × Rose (before.faults name) (now.faults name) × (now.stage name ≡ Some Stage.Closed)
+FailsToRead before now name limit (Unreadable.TooLong n) =
+    (n ≡ name) × (now.faults ≡ before.faults) × IfSome (before.holds name) (λ bytes. limit < length bytes)
+FailsToRead before now name limit Unreadable.Memory = Unit {0}
+
+abbrev pub unreadable_status : Unreadable → Status
+unreadable_status (Unreadable.Open name) = Status.OpenFault name
+unreadable_status (Unreadable.Read name) = Status.ReadFault name
+unreadable_status (Unreadable.TooLong name) = Status.TooLong name
+unreadable_status Unreadable.Memory = Status.Memory
+
+-- ---- models
+
+abbrev pub unread_status : Unread → Status
+unread_status Unread.Refused = Status.Refused
+unread_status Unread.Memory = Status.Memory
+
+-- What the run of a process comes to: it is told of the turn at which the run stops, and the value there is near optimal.
+pub record IsSolution (m : Process) (options : Options) (x : Solution) : Type 0 where
+  pub valid : IsValid m
+  pub why : x.why ≡ (stop_of m options.turns options.span).why
+  pub iterate : told x.iterate ≡ result_of m options.turns options.span
+  pub near_optimal : IsNearOptimal m (value m options)
+  pub fits : FitsModel m x.iterate
+
+-- a fault of a process, with the names of what is at fault
+abbrev pub told_fault : Process → PlainFault → Unsolved
+told_fault m (Fault.TooManyStates product) = Unsolved.TooManyStates product
+told_fault m (Fault.Sum action var state sum) = Unsolved.Sum (action_name m action) (var_name m var) (state_text m state) sum
+told_fault m (Fault.Range action state value) = Unsolved.Range (action_name m action) (state_text m state) value
+told_fault m Fault.Memory = Unsolved.Memory
+
+abbrev pub unsolved_status : Unsolved → Status
+unsolved_status (Unsolved.TooManyStates product) = Status.TooManyStates product
+unsolved_status (Unsolved.Sum action var state sum) = Status.Sum action var state sum
+unsolved_status (Unsolved.Range action state value) = Status.Range action state value
+unsolved_status Unsolved.Memory = Status.Memory
+
+-- `variable=value`, and what parts the word of this number from the one before it
+abbrev pub state_word : Var → ℕ → List ℕ
+state_word var v = var.name ++ codes "=" ++ value_name var v
+
+abbrev pub gap_before : ℕ → List ℕ
+gap_before zero = []
+gap_before (suc number) = codes " "
+
+-- ---- ends
+
+-- how a command ends once the result of its run is written
+abbrev pub finished_status : Solution → Status
+finished_status x = elim x.why [ Why.Done ↦ Status.Done | Why.Limit ↦ Status.TurnLimit x.iterate.residual.r ]
+
+-- how a command ended, whether it was finished or not
+abbrev pub ending : Result Status Status → Status
+ending (Ok status) = status
+ending (Err status) = status
