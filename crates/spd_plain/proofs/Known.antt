@@ -1,5 +1,5 @@
 -- What the lists of axes, reaches and kept chances tell of a model.
-use Rattle.std.proofs.Common.{◌≡◌, ◌∙◌, ℕ, suc, ◌<◌, ◌≤◌, ◌++◌, Bool, true, false, nat_le, if◌then◌else◌, List, [], ◌∷◌, length, map, take, get_or, slice_get, slice_index, Option, Some, None, All, Contains, ℤ, pos, refl, ap, sym, subst, arith}
+use Rattle.std.proofs.Common.{◌≡◌, ◌∙◌, ℕ, suc, ◌<◌, ◌≤◌, ◌++◌, Bool, true, false, nat_le, if◌then◌else◌, List, [], ◌∷◌, length, map, take, get_or, slice_get, slice_index, Option, Some, None, Contains, ℤ, pos, refl, ap, sym, subst, arith}
 use Rattle.std.proofs.lemmas.Bool.Decides.{nat_tests}
 use Rattle.std.proofs.lemmas.List.{get_or-map, get_or_default}
 use Rattle.std.proofs.lemmas.List.Elements.{All-contains}
@@ -12,9 +12,9 @@ use Rattle.spd_model.specs.Trees.{read_in, value_of}
 use Rattle.spd_model.specs.Lawful.{IsLawful, IsAction}
 use Rattle.spd_model.specs.Numbers.{numbers_below}
 use Rattle.spd_model.specs.States.{sizes, states, state_count, IsState}
-use Rattle.spd_model.specs.Chances.{sizes_after, probability}
+use Rattle.spd_model.specs.Chances.{sizes_after}
 use Rattle.spd_model.proofs.CallerLemmas.Lists.{length-numbers_below, get_or-numbers_below}
-use Rattle.spd_model.proofs.CallerLemmas.StateOrder.{length-IsState, length-sizes, sizes_some}
+use Rattle.spd_model.proofs.CallerLemmas.StateOrder.{length-IsState, length-sizes}
 use Rattle.spd_plain.specs.declared.space.Axis.{Axis}
 use Rattle.spd_plain.specs.declared.reach.Reach.{Reach}
 use Rattle.spd_plain.specs.declared.reach.Reach.TheVariants.{Own, Later}

@@ -1,13 +1,12 @@
 -- The sums of a variable whose table follows its own next value alone: they are all the same.
-use Rattle.std.proofs.Common.{◌≡◌, ◌∙◌, ℕ, ◌<◌, ◌≤◌, Bool, true, false, not, List, [], length, map, take, find, get_or, slice_index, All, Contains, None, ap, sym, subst, arith}
+use Rattle.std.proofs.Common.{◌≡◌, ℕ, ◌<◌, ◌≤◌, false, not, List, [], length, map, take, find, get_or, slice_index, Contains, None, sym, subst, arith}
 use Rattle.std.specs.Ordering.{int_eq}
-use Rattle.std.proofs.lemmas.List.{get_or-take, length-take, get_or-map}
+use Rattle.std.proofs.lemmas.List.{length-take}
 use Rattle.std.proofs.lemmas.List.Elements.{All-map}
-use Rattle.std.proofs.Math.ListN.{length-map}
 use Rattle.spd_model.specs.declared.process.Action.{Action}
 use Rattle.spd_model.specs.Process.{Process}
 use Rattle.spd_model.specs.Lawful.{IsLawful}
-use Rattle.spd_model.specs.States.{sizes, states, state_count, IsState}
+use Rattle.spd_model.specs.States.{sizes, states, IsState}
 use Rattle.spd_model.specs.Chances.{Sum, one, sizes_after, probability, sum_of}
 use Rattle.spd_model.proofs.CallerLemmas.Finds.{find_none, none_passes, find_map_none}
 use Rattle.spd_model.proofs.CallerLemmas.Lists.{All-map_back}

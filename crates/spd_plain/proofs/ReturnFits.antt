@@ -1,5 +1,5 @@
 -- Each step of a return of bounded values fits 128 bits.
-use Rattle.std.proofs.Common.{◌≡◌, ◌∙◌, ℕ, ◌≤◌, ◌<◌, List, length, get_or, All, ℤ, pos, ◌+ℤ◌, ◌*ℤ◌, FitsSigned, sym, subst, arith}
+use Rattle.std.proofs.Common.{◌≡◌, ◌∙◌, ℕ, ◌≤◌, List, length, get_or, All, ℤ, pos, ◌+ℤ◌, ◌*ℤ◌, FitsSigned, sym, subst, arith}
 use Rattle.std.proofs.lemmas.Int.{ints}
 use Rattle.std.proofs.lemmas.List.{get_or_default}
 use mir.Syntax.{w128}

@@ -1,7 +1,7 @@
 -- What stands in a row of outlooks, and the greatest over a row.
-use Rattle.std.proofs.Common.{◌≡◌, ◌∙◌, ℕ, suc, ◌+◌, ◌<◌, ◌≤◌, List, [], ◌∷◌, ◌++◌, length, map, take, get_or, Contains, ℤ, refl, ap, sym, subst, arith}
+use Rattle.std.proofs.Common.{◌≡◌, ◌∙◌, ℕ, ◌+◌, ◌<◌, ◌≤◌, List, [], ◌∷◌, ◌++◌, length, map, take, get_or, Contains, ℤ, refl, ap, sym, subst, arith}
 use Rattle.std.specs.Int.{int_max}
-use Rattle.std.proofs.lemmas.List.{get_or-map, get_or_default, take_more, map_push, length-take, take_all}
+use Rattle.std.proofs.lemmas.List.{get_or-map, take_more, map_push, length-take, take_all}
 use Rattle.std.proofs.Math.ListN.{length-map}
 use Rattle.spd_model.specs.declared.process.Action.{Action}
 use Rattle.spd_model.specs.declared.Side.{Side}
@@ -11,7 +11,7 @@ use Rattle.spd_model.specs.Numbers.{greatest, first_place}
 use Rattle.spd_model.specs.States.{sizes, states, state_count}
 use Rattle.spd_model.specs.Chances.{reward_of}
 use Rattle.spd_model.proofs.CallerLemmas.StateOrder.{get_or-table_of, length-table_of}
-use Rattle.spd_model.proofs.CallerLemmas.Greatest.{fold-push, IsFirstBest, first_best_start, first_place_is}
+use Rattle.spd_model.proofs.CallerLemmas.Greatest.{fold-push}
 use Rattle.spd_plain.specs.declared.outlook.Outlook.{Outlook}
 use Rattle.spd_plain.specs.Outlooks.{outlook_of, outlooks_at, outlooks_of}
 use Rattle.spd_plain.specs.Sweeps.{bound_on, action_on}

@@ -1,5 +1,5 @@
 -- One variable after another is summed out of a table of values: what the table has after each.
-use Rattle.std.proofs.Common.{◌≡◌, ℕ, zero, suc, ◌+◌, ◌*◌, ◌/◌, ◌%◌, ◌<◌, ◌≤◌, List, [], ◌∷◌, length, drop, get_or, slice_index, All, Contains, Result, Ok, Err, ℤ, pos, ◌*ℤ◌, ◌≤ℤ◌, ap, sym, ◌∙◌, subst, arith}
+use Rattle.std.proofs.Common.{◌≡◌, ℕ, suc, ◌+◌, ◌*◌, ◌/◌, ◌%◌, ◌<◌, List, [], ◌∷◌, length, drop, get_or, slice_index, All, Contains, Result, Ok, Err, ℤ, pos, ◌*ℤ◌, ◌≤ℤ◌, ap, sym, ◌∙◌, subst, arith}
 use Rattle.std.specs.Result.{OnOk}
 use Rattle.std.proofs.Math.Nat.{div-add-mod', mod-lt}
 use Rattle.std.proofs.lemmas.List.{drop_all}

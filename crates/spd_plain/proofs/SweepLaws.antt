@@ -5,7 +5,6 @@ use Rattle.std.proofs.lemmas.Int.{ints}
 use Rattle.std.proofs.lemmas.List.{get_or-map}
 use Rattle.std.proofs.Math.ListN.{length-map}
 use Rattle.std.proofs.lemmas.List.Elements.{All-weaker}
-use Rattle.spd_scaled.specs.Scaled.{IsWithin}
 use Rattle.spd_scaled.proofs.CallerLemmas.Magnitude.{IsWithin_mono}
 use Rattle.spd_model.specs.declared.Side.{Side}
 use Rattle.spd_model.specs.declared.Side.TheVariants.{Above, Below}

@@ -1,23 +1,15 @@
 -- Which next values the value of a table follows.
-use Rattle.std.proofs.Common.{◌≡◌, ◌⊎◌, inl, inr, ℕ, zero, suc, ◌<◌, ◌≤◌, max, Bool, true, false, nat_le, if◌then◌else◌, List, [], ◌∷◌, ◌++◌, length, take, drop, flat_map, fold, get_or, slice_get, slice_index, Some, None, All, Contains, refl, ap, sym, ◌∙◌, subst, arith, length-append}
+use Rattle.std.proofs.Common.{◌≡◌, inl, inr, ℕ, suc, ◌<◌, ◌≤◌, max, Bool, true, false, if◌then◌else◌, List, [], ◌∷◌, ◌++◌, length, take, drop, flat_map, fold, get_or, All, refl, sym, ◌∙◌, arith, length-append}
 use Rattle.std.proofs.lemmas.Bool.{cases_lt, false≢true}
-use Rattle.std.proofs.lemmas.Bool.Decides.{nat_tests}
 use Rattle.std.proofs.lemmas.List.{get_or_append_left, get_or_push, get_or_past}
-use Rattle.std.proofs.lemmas.List.Elements.{All-nil, All-cons, All-append, All-weaker, All-contains}
+use Rattle.std.proofs.lemmas.List.Elements.{All-nil, All-cons, All-append, All-weaker}
 use Rattle.spd_model.specs.declared.tree.Tree.{Tree, Leaf, Named, Branch', Row_of-Tree, end_of-Tree, more_of-Tree}
-use Rattle.spd_model.specs.declared.process.Action.{Action}
 use Rattle.spd_model.specs.Process.{Process}
 use Rattle.spd_model.specs.Trees.{read_tree, read_kids, read_diagrams, read_in, value_of, Part, number, choice, missing, parts, parts_of}
-use Rattle.spd_model.specs.Lawful.{IsLawful, IsAction, FitsTable}
-use Rattle.spd_model.specs.States.{sizes, states, IsState}
-use Rattle.spd_model.specs.Chances.{sizes_after, probability}
+use Rattle.spd_model.specs.Lawful.{FitsTable}
 use Rattle.spd_model.proofs.CallerLemmas.Lists.{All-one}
-use Rattle.spd_model.proofs.CallerLemmas.StateOrder.{length-IsState, length-sizes}
 use Rattle.spd_model.proofs.CallerLemmas.TreeValues.{GoesAlike, value_same}
-use Rattle.spd_plain.specs.declared.reach.Reach.{Reach}
-use Rattle.spd_plain.specs.declared.reach.Reach.TheVariants.{Own, Later}
-use Rattle.spd_plain.specs.Reach.{latest, reach_at}
-use Rattle.spd_plain.specs.Chances.{chance_of}
+use Rattle.spd_plain.specs.Reach.{latest}
 use Rattle.spd_plain.proofs.Tables.{index-from, index-at}
 
 -- a part follows next values of variables below n alone

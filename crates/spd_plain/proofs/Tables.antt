@@ -6,7 +6,7 @@ use Rattle.std.proofs.lemmas.List.{get_or_default, map_push}
 use Rattle.spd_model.specs.Numbers.{numbers_below}
 use Rattle.spd_model.specs.Process.{Process}
 use Rattle.spd_model.specs.Lawful.{IsLawful}
-use Rattle.spd_model.specs.States.{sizes, states, state_count, rank, IsState}
+use Rattle.spd_model.specs.States.{sizes, states, state_count, IsState}
 use Rattle.spd_model.specs.Chances.{sizes_after}
 use Rattle.spd_model.proofs.CallerLemmas.StateOrder.{IsState-get_or, length-states, rank-get_or, get_or-states, length-sizes, sizes_some, state_count_some}
 use Rattle.spd_plain.specs.declared.space.Axis.{Axis}

@@ -1,15 +1,14 @@
 -- What a result on tables tells is what the definitions tell of its turn.
-use Rattle.std.proofs.Common.{◌≡◌, ◌==◌, ℕ, zero, suc, ◌<◌, Bool, List, [], ◌∷◌, map, get_or, All, ℤ, ap, sym, ◌∙◌, subst, arith}
-use Rattle.std.specs.Ordering.{int_eq}
+use Rattle.std.proofs.Common.{◌≡◌, ◌==◌, ℕ, suc, Bool, List, [], ◌∷◌, map, All, ℤ, ap, ◌∙◌, arith}
 use Rattle.std.proofs.lemmas.List.{get_or-map}
 use Rattle.std.proofs.lemmas.List.Elements.{All-head, All-tail}
 use Rattle.spd_model.specs.Process.{Process}
 use Rattle.spd_model.specs.Numbers.{numbers_below}
-use Rattle.spd_model.specs.States.{sizes, states, rank, table_of, IsState}
+use Rattle.spd_model.specs.States.{sizes, states, rank, IsState}
 use Rattle.spd_model.specs.Backup.{policy_of}
 use Rattle.spd_model.specs.Turns.{stop_value}
-use Rattle.spd_model.specs.Reduced.{leaf, choice_of, reduced_from, reduced, listed}
-use Rattle.spd_model.specs.ResultText.{Iterate, result_of}
+use Rattle.spd_model.specs.Reduced.{leaf, choice_of, reduced_from, listed}
+use Rattle.spd_model.specs.ResultText.{result_of}
 use Rattle.spd_plain.specs.declared.solve.Plain.{Plain}
 use Rattle.spd_plain.specs.Plain.{plain_of, told_of}
 use Rattle.spd_model.proofs.CallerLemmas.Lists.{All-numbers_below}

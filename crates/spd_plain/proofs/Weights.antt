@@ -19,12 +19,6 @@ entry_below v size k after h near = let more = mul-le-mul_right after h in omega
 
 module _ (size after : ℕ) (chances values : List ℤ) (weights : AreWeights size after chances) (count : length values ≡ size * after)
     (bounded : All (IsWithin (pos value_limit)) values) (k : ℕ) (near : k < after) where
-  chance : ℕ → ℤ
-  chance v = entry after chances v k
-
-  value : ℕ → ℤ
-  value v = entry after values v k
-
   limited : (v : ℕ) → v < size → IsWithin (pos value_limit) (entry after values v k)
   limited v h = bounded (v * after + k) (pos 0) (omega (arith, entry_below v size k after h near))
 

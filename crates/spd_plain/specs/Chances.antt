@@ -1,5 +1,5 @@
 -- The probabilities of a variable's next values, by the states of the variables from it on.
-use Rattle.std.specs.Prelude.{ℕ, suc, ◌+◌, ◌*◌, ◌<◌, ◌≡◌, ◌++◌, List, [], ◌∷◌, length, map, take, drop, ℤ, pos, slice_get, slice_index, slice_index_or, Some, None}
+use Rattle.std.specs.Prelude.{ℕ, ◌*◌, ◌<◌, ◌≡◌, ◌++◌, List, [], ◌∷◌, length, map, take, drop, ℤ, pos, slice_get, slice_index, slice_index_or, Some, None}
 use Rattle.spd_model.specs.declared.process.Action.{Action}
 use Rattle.spd_model.specs.Process.{Process}
 use Rattle.spd_model.specs.Trees.{value_of}

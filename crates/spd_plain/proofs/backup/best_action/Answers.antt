@@ -1,4 +1,4 @@
-use Rattle.std.proofs.Common.{rules, ◌≡◌, ◌∙◌, List, ℤ, ℕ, ap, map, take, FitsSigned, arith}
+use Rattle.std.proofs.Common.{rules, ◌∙◌, List, ℤ, ℕ, ap, map, FitsSigned}
 use Rattle.std.proofs.lemmas.Int.{to_z-of_z}
 use Rattle.std.proofs.lemmas.List.{take_all}
 use mir.Syntax.{w128}

@@ -1,4 +1,4 @@
-use Rattle.std.proofs.Common.{◌<◌, map, take}
+use Rattle.std.proofs.Common.{map, take}
 use Rattle.spd_model.specs.States.{sizes, at}
 use Rattle.spd_model.proofs.CallerLemmas.Greatest.{IsFirstBest}
 use Rattle.spd_plain.specs.Sweeps.{bound_on}

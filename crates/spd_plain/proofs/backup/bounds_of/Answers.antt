@@ -1,4 +1,4 @@
-use Rattle.std.proofs.Common.{rules, ◌≡◌, ◌∙◌, ℕ, pos, ◌+ℤ◌, ◌*ℤ◌, ap, sym, subst, FitsSigned, to_z, arith}
+use Rattle.std.proofs.Common.{rules, ◌≡◌, ◌∙◌, pos, ◌+ℤ◌, ◌*ℤ◌, ap, sym, subst, FitsSigned, to_z, arith}
 use Rattle.std.proofs.lemmas.Int.{ints, to_z-of_z}
 use mir.Syntax.{w128}
 use Rattle.spd_scaled.specs.Scaled.{IsWithin, floor_div, ceil_div}
@@ -7,8 +7,6 @@ use Rattle.spd_model.specs.Process.{Process}
 use Rattle.spd_model.specs.Lawful.{IsLawful}
 use Rattle.spd_model.specs.States.{sizes, at}
 use Rattle.spd_model.specs.Chances.{reward_limit, reward_of}
-use Rattle.spd_model.specs.Backup.{expectation}
-use Rattle.spd_model.specs.Turns.{value_limit}
 use Rattle.spd_model.proofs.CallerLemmas.Bounded.{IsLimited, floor_keeps, ceil_keeps, return_limited, IsBounded-at}
 use Rattle.spd_plain.specs.declared.outlook.Outlook.{Outlook}
 use Rattle.spd_plain.proofs.ReturnFits.{product_fits, return_fits, only_entry, only_limited}

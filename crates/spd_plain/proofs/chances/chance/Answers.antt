@@ -1,4 +1,4 @@
-use Rattle.std.proofs.Common.{rules, ◌≡◌, ◌∙◌, ◌^◌, ◌++◌, pos, List, take, drop, get_or, Some, None, ap, sym, subst, arith, FitsSigned}
+use Rattle.std.proofs.Common.{rules, ◌∙◌, ◌^◌, ◌++◌, pos, List, take, drop, get_or, Some, None, ap, sym, subst, arith, FitsSigned}
 use Rattle.std.proofs.lemmas.Int.{to_z-of_z}
 use Rattle.std.proofs.lemmas.List.Elements.{All-contains}
 use Rattle.std.proofs.lemmas.Option.{slice_get_read}

@@ -1,4 +1,4 @@
-use Rattle.std.proofs.Common.{rules, ◌≡◌, ◌∙◌, ◌<◌, ◌*◌, ◌+◌, ◌∷◌, [], ℕ, ℤ, drop, ap, subst, get_or, FitsSigned, arith}
+use Rattle.std.proofs.Common.{rules, ◌≡◌, ◌∙◌, ◌*◌, ◌+◌, ◌∷◌, [], ℕ, ℤ, drop, ap, subst, get_or, FitsSigned, arith}
 use Rattle.std.proofs.lemmas.Int.{to_z-of_z}
 use mir.Syntax.{w128}
 use Rattle.spd_model.specs.Lawful.{IsLawful}

@@ -1,22 +1,18 @@
-use Rattle.std.proofs.Common.{rules, ◌≡◌, ◌∙◌, ◌<◌, ◌≤◌, ◌*◌, ◌+◌, ◌++◌, [], suc, ℕ, ℤ, pos, List, length, map, drop, get_or, All, Contains, ap, sym, subst, arith, add-one}
+use Rattle.std.proofs.Common.{◌≡◌, ◌∙◌, ◌<◌, ◌≤◌, ◌*◌, ◌+◌, ◌++◌, [], suc, ℕ, ℤ, pos, List, length, get_or, All, Contains, ap, sym, subst, arith}
 use Rattle.spd_scaled.specs.Scaled.{IsWithin, floor_div, ceil_div}
 use Rattle.spd_model.specs.declared.process.Action.{Action}
 use Rattle.spd_model.specs.Process.{Process}
 use Rattle.spd_model.specs.Lawful.{IsLawful}
-use Rattle.spd_model.specs.Numbers.{numbers_below}
-use Rattle.spd_model.specs.States.{sizes, states, state_count, at, IsState}
+use Rattle.spd_model.specs.States.{sizes, state_count, at, IsState}
 use Rattle.spd_model.specs.Chances.{one, IsValid}
 use Rattle.spd_model.specs.Backup.{Rounding}
 use Rattle.spd_model.specs.Turns.{value_limit}
 use Rattle.spd_plain.specs.declared.space.Axis.{Axis}
 use Rattle.spd_plain.specs.declared.outlook.Outlook.{Outlook}
-use Rattle.spd_plain.specs.declared.chances.Chances.{Chances}
 use Rattle.spd_plain.specs.Space.{axis_of, axes_of, IsAxis, state_limit}
 use Rattle.spd_plain.specs.Chances.{TellsChances}
-use Rattle.spd_plain.specs.Outlooks.{known_of}
 use Rattle.spd_plain.specs.Expectations.{weighted}
 use Rattle.spd_plain.proofs.Known.{length-below, var_is, is_axis, known_at}
-use Rattle.spd_plain.proofs.Tables.{after_some, counted, size_is}
 use Rattle.spd_plain.proofs.Steps.{Expects, IsReady, is_ready, expects_start, expects_more, expects_one, expects_all}
 use Rattle.spd_plain.proofs.expectation.expect.Goals as goal
 

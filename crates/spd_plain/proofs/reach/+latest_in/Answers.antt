@@ -1,5 +1,4 @@
-use Rattle.std.proofs.Common.{◌≡◌, ◌∙◌, ◌+◌, suc, ℕ, max, map, fold, take, take_all, List, if◌then◌else◌, ap, sym, arith, add-one}
-use Rattle.spd_model.specs.declared.tree.Tree.{Tree}
+use Rattle.std.proofs.Common.{◌≡◌, ◌∙◌, suc, max, map, fold, take, take_all, if◌then◌else◌, ap, sym, add-one}
 use Rattle.spd_model.specs.Trees.{read_tree}
 use Rattle.spd_model.proofs.CallerLemmas.Trees.{read_tree-Branch}
 use Rattle.spd_plain.specs.Reach.{latest}

@@ -1,7 +1,7 @@
-use Rattle.std.proofs.Common.{◌≡◌, ◌∙◌, ◌<◌, ◌+◌, ◌++◌, ◌∷◌, [], ℕ, List, length, take, take_all, get_or, slice_get, Some, None, ap, sym, arith, length-append}
+use Rattle.std.proofs.Common.{◌≡◌, ◌∙◌, ◌+◌, ◌++◌, ◌∷◌, [], ℕ, length, take, take_all, get_or, slice_get, ap, sym, arith, length-append}
 use Rattle.std.proofs.lemmas.List.{take_more}
 use Rattle.std.proofs.lemmas.Option.{get_or_from_slice_get, slice_get_within}
-use Rattle.spd_model.specs.States.{sizes, states, state_count}
+use Rattle.spd_model.specs.States.{sizes, states}
 use Rattle.spd_model.proofs.CallerLemmas.StateOrder.{length-states, stands_at}
 use Rattle.spd_plain.proofs.Products.{past_none}
 use Rattle.spd_plain.proofs.space.all_states.Goals as goal

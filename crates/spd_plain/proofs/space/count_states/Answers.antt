@@ -1,11 +1,11 @@
-use Rattle.std.proofs.Common.{◌≡◌, ◌∙◌, ◌<◌, ◌≤◌, ◌*◌, suc, ℕ, length, map, take, take_all, find, get_or, nat_lt, None, ap, sym, subst, arith, add-one}
+use Rattle.std.proofs.Common.{◌∙◌, ◌<◌, ◌*◌, suc, ℕ, length, take, nat_lt, ap, sym, subst, arith, add-one}
 use Rattle.spd_model.specs.Process.{Process}
 use Rattle.spd_model.specs.Lawful.{IsLawful}
 use Rattle.spd_model.specs.Numbers.{numbers_below}
 use Rattle.spd_model.specs.States.{sizes, state_count}
 use Rattle.spd_model.proofs.CallerLemmas.Finds.{find_map_here, find_map_more}
 use Rattle.spd_model.proofs.CallerLemmas.Lists.{length-numbers_below, get_or-numbers_below}
-use Rattle.spd_model.proofs.CallerLemmas.StateOrder.{length-sizes, sizes_some}
+use Rattle.spd_model.proofs.CallerLemmas.StateOrder.{sizes_some}
 use Rattle.spd_plain.specs.Space.{state_limit}
 use Rattle.spd_plain.proofs.Products.{next_product, state_count-take-le, size_read, lt_holds, lt_fails}
 use Rattle.spd_plain.proofs.space.count_states.Goals as goal

@@ -1,4 +1,4 @@
-use Rattle.std.proofs.Common.{rules, ◌≡◌, ◌∙◌, ◌<◌, refl, List, [], length, get_or, take_all, map, ap, sym, subst, FitsSigned, arith, pos, All, false, ℕ}
+use Rattle.std.proofs.Common.{rules, ◌≡◌, ◌∙◌, ◌<◌, refl, List, [], get_or, take_all, map, ap, sym, subst, FitsSigned, arith, pos, All, false, ℕ}
 use Rattle.std.proofs.lemmas.Int.{to_z-of_z}
 use Rattle.std.proofs.lemmas.List.Elements.{All-more}
 use mir.Syntax.{w128}

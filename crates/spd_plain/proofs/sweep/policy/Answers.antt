@@ -1,4 +1,4 @@
-use Rattle.std.proofs.Common.{◌≡◌, ◌∙◌, ◌<◌, ℕ, List, [], length, get_or, ap, sym, arith}
+use Rattle.std.proofs.Common.{◌∙◌, ◌<◌, [], length, ap, arith}
 use Rattle.spd_model.specs.States.{sizes, states, state_count, at}
 use Rattle.spd_model.specs.Backup.{policy_of}
 use Rattle.spd_model.proofs.CallerLemmas.StateOrder.{length-states}

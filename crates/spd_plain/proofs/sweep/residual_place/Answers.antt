@@ -1,4 +1,4 @@
-use Rattle.std.proofs.Common.{rules, ◌≡◌, ◌∙◌, ◌<◌, refl, List, [], length, get_or, map, ap, sym, subst, FitsSigned, arith, pos, ℕ, if◌then◌else◌, All}
+use Rattle.std.proofs.Common.{rules, ◌≡◌, ◌∙◌, refl, List, [], length, get_or, map, ap, sym, subst, FitsSigned, arith, pos, ℕ, if◌then◌else◌, All}
 use Rattle.std.proofs.lemmas.Int.{to_z-of_z}
 use mir.Syntax.{w128}
 use Rattle.std.specs.Ordering.{int_eq}

@@ -1,4 +1,4 @@
-use Rattle.std.proofs.Common.{rules, ◌∙◌, ℕ, List, [], length, map, get_or, ap, refl, sym, subst, arith, ◌<◌, ◌≡◌, FitsSigned}
+use Rattle.std.proofs.Common.{rules, ◌∙◌, [], map, get_or, refl, subst, arith, ◌<◌, FitsSigned}
 use Rattle.std.proofs.lemmas.Int.{to_z-of_z}
 use mir.Syntax.{w128}
 use Rattle.spd_model.specs.Lawful.{IsLawful}
@@ -6,7 +6,6 @@ use Rattle.spd_model.specs.Numbers.{greatest}
 use Rattle.spd_model.specs.States.{sizes, states, state_count}
 use Rattle.spd_model.specs.Chances.{reward_of}
 use Rattle.spd_model.proofs.CallerLemmas.StateOrder.{length-states}
-use Rattle.spd_plain.specs.declared.outlook.Outlook.{Outlook}
 use Rattle.spd_plain.proofs.Rows.{length-rows, row_read, row_some, rewards_at, plain_more, table_done}
 use Rattle.spd_plain.proofs.sweep.start.Goals as goal
 

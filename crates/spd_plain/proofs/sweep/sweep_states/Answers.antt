@@ -1,4 +1,4 @@
-use Rattle.std.proofs.Common.{rules, ◌≡◌, ◌∙◌, ◌<◌, ◌++◌, ◌∷◌, ℕ, List, length, get_or, map, ap, sym, subst, FitsSigned, pos, [], ◌-ℤ◌, arith, All}
+use Rattle.std.proofs.Common.{rules, ◌≡◌, ◌∙◌, ◌<◌, ◌∷◌, length, get_or, ap, sym, subst, FitsSigned, pos, [], ◌-ℤ◌, arith, All}
 use Rattle.std.specs.Int.{int_max}
 use Rattle.std.proofs.lemmas.Int.{to_z-of_z}
 use Rattle.std.proofs.lemmas.List.Elements.{All-append, All-nil, All-cons}
@@ -8,7 +8,6 @@ use Rattle.spd_model.proofs.CallerLemmas.Gaps.{gap_at}
 use Rattle.spd_model.proofs.CallerLemmas.Greatest.{greatest_more}
 use Rattle.spd_model.proofs.CallerLemmas.StateOrder.{length-states, at-get_or}
 use Rattle.spd_plain.specs.Bounds.{range_of}
-use Rattle.spd_plain.specs.Outlooks.{outlooks_at}
 use Rattle.spd_plain.specs.Sweeps.{AreLimited}
 use Rattle.spd_plain.proofs.Rows.{row_read, length-rows, table_more}
 use Rattle.spd_plain.proofs.SweepLaws.{range_at}

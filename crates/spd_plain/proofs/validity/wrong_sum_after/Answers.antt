@@ -1,18 +1,15 @@
-use Rattle.std.proofs.Common.{◌≡◌, ◌∙◌, ◌<◌, ℕ, List, length, flat_map, find, get_or, not, ap, sym, subst, arith}
+use Rattle.std.proofs.Common.{◌∙◌, ◌<◌, ℕ, List, length, flat_map, find, not, ap, sym, subst, arith}
 use Rattle.std.specs.Option.{option_map}
 use Rattle.std.specs.Ordering.{int_eq}
-use Rattle.std.proofs.lemmas.List.{get_or_default}
 use Rattle.spd_model.specs.Lawful.{IsLawful}
 use Rattle.spd_model.specs.Numbers.{numbers_below}
 use Rattle.spd_model.specs.States.{sizes, states}
 use Rattle.spd_model.specs.Chances.{Sum, one}
 use Rattle.spd_model.proofs.CallerLemmas.Finds.{find_flat_some, find_flat_more}
 use Rattle.spd_model.proofs.CallerLemmas.Lists.{length-numbers_below, get_or-numbers_below}
-use Rattle.spd_plain.specs.declared.reach.Reach.TheVariants.{Own}
 use Rattle.spd_plain.specs.declared.space.Axis.{Axis}
 use Rattle.spd_plain.specs.Space.{axis_of}
-use Rattle.spd_plain.specs.Reach.{reach_at}
-use Rattle.spd_plain.specs.Faults.{sum_record, sums_at, wrong_sum_of_var}
+use Rattle.spd_plain.specs.Faults.{sum_record, sums_at}
 use Rattle.spd_plain.proofs.Known.{length-below, var_is, is_axis, reach_read}
 use Rattle.spd_plain.proofs.Numbered.{is_some-option_map}
 use Rattle.spd_plain.proofs.validity.wrong_sum_after.Goals as goal

@@ -1,9 +1,9 @@
-use Rattle.std.proofs.Common.{rules, ◌≡◌, ◌∙◌, ◌<◌, ◌≤◌, ℕ, List, [], length, get_or, ap, sym, subst, not, FitsSigned, arith}
+use Rattle.std.proofs.Common.{rules, ◌≡◌, ◌<◌, ℕ, List, [], length, get_or, ap, sym, subst, not, FitsSigned, arith}
 use Rattle.std.specs.Ordering.{int_eq}
 use Rattle.std.proofs.lemmas.Int.{to_z-of_z}
 use mir.Syntax.{w128}
 use Rattle.spd_model.specs.Lawful.{IsLawful}
-use Rattle.spd_model.specs.States.{sizes, states}
+use Rattle.spd_model.specs.States.{states}
 use Rattle.spd_model.specs.Chances.{Sum, sum_of, sizes_after, one}
 use Rattle.spd_model.proofs.CallerLemmas.Finds.{find_map_more, find_map_here}
 use Rattle.spd_model.proofs.CallerLemmas.StateOrder.{length-states}

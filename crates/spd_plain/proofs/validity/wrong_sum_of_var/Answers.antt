@@ -1,4 +1,4 @@
-use Rattle.std.proofs.Common.{◌≡◌, ◌∙◌, ◌<◌, ℕ, List, [], length, find, not, ap, sym, arith}
+use Rattle.std.proofs.Common.{◌∙◌, ◌<◌, ℕ, List, [], length, find, not, ap, sym, arith}
 use Rattle.std.specs.Option.{option_map}
 use Rattle.std.specs.Ordering.{int_eq}
 use Rattle.spd_model.specs.States.{sizes, states}
