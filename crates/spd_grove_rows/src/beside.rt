@@ -1,4 +1,4 @@
-//! Eight threads that fill one table, of whose nodes half are common.
+//! Eight threads that fill one table: with nodes of which half are common, and with the same nodes.
 ghost use Rattle.std.specs.Prelude.{◌≡◌, ◌<◌, ◌≤◌};
 ghost use Rattle.std.specs.Thread.{IsSync};
 ghost use Rattle.spd_nodes.specs.Levels.{levels_of, slots};
@@ -13,11 +13,12 @@ use std::test::Fail;
 use std::thread;
 use std::thread::Threads;
 
-/// How many nodes all threads make.
-const COMMON: u32 = 500_000;
-
-/// How many nodes each thread makes beside.
-const OWN: u32 = 62_500;
+/// How many nodes all threads make, and how many each makes beside.
+#[derive(Clone, Copy, Debug)]
+pub struct Work {
+    pub common: u32,
+    pub own: u32,
+}
 
 /// A seat with the sum of the common nodes' entries, where all its nodes came.
 #[derive(Drop)]
@@ -27,18 +28,20 @@ pub struct FilledSeat {
 }
 
 /// Makes the common nodes and the nodes of one thread, of eight.
-fn fill_own(cons: &Cons, layout: &Layout, seat: Seat, thread: u8) -> FilledSeat
+fn fill_own(cons: &Cons, layout: &Layout, seat: Seat, work: Work, thread: u8) -> FilledSeat
     requires own { seat.table ≡ cons.now }
     requires fit { AllFitIn (slots layout.now) seat.mind.knows }
     requires level { 0 < levels_of (slots layout.now) }
     requires thread { thread < 8 }
+    requires common { work.common ≤ 1000000 }
+    requires beside { work.own ≤ 1000000 }
     ensures table { result.seat.table ≡ cons.now }
     ensures fit { AllFitIn (slots layout.now) result.seat.mind.knows }
 {
     let mut grove = Grove::new(cons, seat, layout);
-    let sum = fill::<_, Brand>(&mut grove, 0, COMMON, Blank::new(1));
-    let from = COMMON + OWN * u32::from(thread);
-    let own = fill::<_, Brand>(&mut grove, from, from + OWN, Blank::new(1));
+    let sum = fill::<_, Brand>(&mut grove, 0, work.common, Blank::new(1));
+    let from = work.common + work.own * u32::from(thread);
+    let own = fill::<_, Brand>(&mut grove, from, from + work.own, Blank::new(1));
     FilledSeat {
         seat: grove.seat(),
         sum: sum.filter(|_| own.is_some()),
@@ -52,6 +55,7 @@ fn fill_beside<R: Threads + Sync>(
     cons: &Cons,
     layout: &Layout,
     seat: Seat,
+    work: Work,
     helpers: u8,
 ) -> FilledSeat
     requires own { seat.table ≡ cons.now }
@@ -59,22 +63,24 @@ fn fill_beside<R: Threads + Sync>(
     requires level { 0 < levels_of (slots layout.now) }
     requires few { helpers < 8 }
     requires splits { helpers ≤ seat.mind.splits }
+    requires common { work.common ≤ 1000000 }
+    requires beside { work.own ≤ 1000000 }
     ensures table { result.seat.table ≡ cons.now }
     ensures fit { AllFitIn (slots layout.now) result.seat.mind.knows }
 {
     let mut seat = seat;
     if helpers == 0 {
-        return fill_own(cons, layout, seat, 0);
+        return fill_own(cons, layout, seat, work, 0);
     }
     let other = cons.split(&mut seat);
     let fewer = helpers - 1;
     let (mine, theirs) = thread::join(
         rt,
         || -> FilledSeat
-            requires { IsSync R.row × (seat.table ≡ cons.now) × AllFitIn (slots layout.now) seat.mind.knows × (0 < levels_of (slots layout.now)) × (fewer ≤ seat.mind.splits) × (fewer < 8) }
+            requires { IsSync R.row × (seat.table ≡ cons.now) × AllFitIn (slots layout.now) seat.mind.knows × (0 < levels_of (slots layout.now)) × (fewer ≤ seat.mind.splits) × (fewer < 8) × (work.common ≤ 1000000) × (work.own ≤ 1000000) }
             ensures { (result.seat.table ≡ cons.entry.now) × AllFitIn (slots layout.entry.now) result.seat.mind.knows }
-        { fill_beside(rt, cons, layout, seat, fewer) },
-        || fill_own(cons, layout, other, helpers),
+        { fill_beside(rt, cons, layout, seat, work, fewer) },
+        || fill_own(cons, layout, other, work, helpers),
     );
     let mut grove = Grove::new(cons, mine.seat, layout);
     grove.join(Grove::new(cons, theirs.seat, layout));
@@ -89,15 +95,35 @@ fn fill_beside<R: Threads + Sync>(
 fn eight_threads_make_a_million_nodes(rt: HostRuntime) -> Result<(), Fail> {
     let layout = Layout::new(rt.alloc(), &[2])?;
     let (cons, seat) = Cons::new(rt.alloc(), 1_000_000, 8)?;
-    let FilledSeat { seat, sum } = fill_beside(&rt, &cons, &layout, seat, 7);
+    let work = Work {
+        common: 500_000,
+        own: 62_500,
+    };
+    let FilledSeat { seat, sum } = fill_beside(&rt, &cons, &layout, seat, work, 7);
     assert!(rt; sum.is_some());
     assert_eq!(rt; seat.published(), 1_000_000);
     let mut grove = Grove::new(&cons, seat, &layout);
-    let again = fill::<_, Brand>(&mut grove, 0, COMMON, Blank::new(1));
+    let again = fill::<_, Brand>(&mut grove, 0, work.common, Blank::new(1));
     assert_eq!(rt; again, sum);
     let seat = grove.seat();
     assert_eq!(rt; seat.published(), 1_000_000);
     assert!(rt; cons.is_whole(&seat));
     assert_eq!(rt; cons.made(seat), 1_000_000);
+    Ok(())
+}
+
+/// The numbers below 500 make 500 leaves and 499 tests, since the test of number 0 has equal children.
+#[test]
+fn eight_threads_make_the_same_nodes(rt: HostRuntime) -> Result<(), Fail> {
+    let layout = Layout::new(rt.alloc(), &[2])?;
+    let (cons, seat) = Cons::new(rt.alloc(), 1000, 8)?;
+    let work = Work {
+        common: 500,
+        own: 0,
+    };
+    let FilledSeat { seat, sum } = fill_beside(&rt, &cons, &layout, seat, work, 7);
+    assert!(rt; sum.is_some());
+    assert!(rt; cons.is_whole(&seat));
+    assert_eq!(rt; cons.made(seat), 999);
     Ok(())
 }
