@@ -1,5 +1,5 @@
 -- The steps that change no word: a look, a split, a join; and the table at its start.
-use Rattle.std.proofs.Common.{◌≡◌, ◌≢◌, ◌⊎◌, ℕ, zero, suc, ◌+◌, ◌-◌, ◌*◌, ◌≤◌, true, not, is_none, ◌&&◌, eqb, List, [], ◌∷◌, ◌++◌, map, take, drop, set, get_or, length, replicate, None, refl, sym, ap, ◌∙◌, subst, ⊎_elim, arith}
+use Rattle.std.proofs.Common.{◌≡◌, ◌≢◌, ℕ, zero, suc, ◌+◌, ◌-◌, ◌*◌, ◌≤◌, true, not, is_none, ◌&&◌, eqb, List, [], ◌∷◌, ◌++◌, map, take, drop, set, get_or, length, replicate, None, refl, sym, ap, ◌∙◌, subst, ⊎_elim, arith}
 use Rattle.std.specs.List.{Contains}
 use Rattle.std.specs.Int.{IsNextPowerOfTwo}
 use Rattle.std.proofs.lemmas.Bool.{and_parts, and_from, cond-true, true≢false, not_from_false, ne_eqb}

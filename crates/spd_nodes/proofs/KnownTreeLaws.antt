@@ -1,5 +1,5 @@
 -- The trees of the entries that a seat knows.
-use Rattle.std.proofs.Common.{◌≡◌, ◌≢◌, ◌⊎◌, ℕ, zero, suc, ◌+◌, ◌-◌, ◌<◌, true, eqb, List, [], ◌∷◌, refl, sym, ap, ◌∙◌, inl, inr, ⊎_elim, arith}
+use Rattle.std.proofs.Common.{◌≡◌, ◌≢◌, ℕ, zero, suc, ◌+◌, ◌-◌, ◌<◌, true, eqb, List, [], ◌∷◌, refl, sym, ap, ◌∙◌, inl, inr, ⊎_elim, arith}
 use Rattle.std.specs.List.{Contains}
 use Rattle.std.proofs.lemmas.Bool.{and_parts, cond_both, eqb-true, or_cases, true≢false}
 use Rattle.spd_cons_core.specs.declared.key.Entry.{Entry}
@@ -8,7 +8,6 @@ use Rattle.spd_cons_core.specs.declared.key.Key.TheVariants as K
 use Rattle.spd_cons_core.specs.declared.mind.Known.{Known}
 use Rattle.spd_cons_core.specs.Seats.{is_known, parts_known}
 use Rattle.spd_cons_core.proofs.CallerLemmas.{known_from, contains_cons}
-use Rattle.spd_nodes.specs.declared.leaf.Leaf.TheVariants as L
 use Rattle.spd_nodes.specs.Levels.{levels_of, after, is_first}
 use Rattle.spd_nodes.specs.Trees.{Tests, IsFrom, IsAt, IsReduced}
 use Rattle.spd_nodes.proofs.TreeLaws.{after_above}
