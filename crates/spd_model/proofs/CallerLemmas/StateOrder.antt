@@ -148,10 +148,6 @@ All-table_of P sizes f h = All-map P f (states sizes) (All-states (λ s. P (f s)
 pub All-table_of_back : {X : Type 0} (P : X → Type 0) (sizes : List ℕ) (f : List ℕ → X) → All P (table_of sizes f) → (s : List ℕ) → IsState sizes s → P (f s)
 All-table_of_back P sizes f h = All-states_back (λ s. P (f s)) sizes (All-map_back P f (states sizes) h)
 
--- a state is the one of its rank
-pub state_at-rank : (sizes s : List ℕ) → IsState sizes s → state_at sizes (rank sizes s) ≡ s
-state_at-rank sizes s is = sym (get_or-states_at sizes (rank sizes s) (rank_below sizes s is)) ∙ get_or-states sizes s is
-
 -- the state that stands at a place in the order
 pub slice_get-states : (sizes s : List ℕ) → IsState sizes s → slice_get (states sizes) (rank sizes s) ≡ Some s
 slice_get-states sizes s is =
