@@ -13,7 +13,7 @@ use Rattle.std.specs.List.Sorted.{IsStrictlySortedBy}
 use Rattle.spd_scaled.specs.Scaled.{floor_div}
 use Rattle.spd_model.specs.Ranges.{Range, Group, group_of, groups_from, groups_of, joined, is_same, middle_of, value_in}
 use Rattle.spd_plain.specs.declared.ranges.Bounds.{Bounds}
-use Rattle.spd_plain.specs.Bounds.{range_of, bounds_cmp}
+use Rattle.spd_plain.specs.inner.Bounds.{range_of, bounds_cmp}
 use Rattle.spd_plain.proofs.RangeOrder.{other_if_below, is_same_itself}
 
 -- the middle of its group for each member

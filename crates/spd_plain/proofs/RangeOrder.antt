@@ -10,7 +10,7 @@ use Rattle.std.specs.BTreeSet.{insert_key}
 use Rattle.std.specs.Cmp.{tied_then}
 use Rattle.spd_model.specs.Ranges.{Range, is_same, is_before, with_range, in_order}
 use Rattle.spd_plain.specs.declared.ranges.Bounds.{Bounds}
-use Rattle.spd_plain.specs.Bounds.{range_of, bounds_cmp}
+use Rattle.spd_plain.specs.inner.Bounds.{range_of, bounds_cmp}
 
 -- the order of ranges as one answer
 abbrev pub range_cmp : Range → Range → Ordering

@@ -10,7 +10,7 @@ use Rattle.spd_model.specs.declared.Side.{Side}
 use Rattle.spd_model.specs.declared.Side.TheVariants.{Above, Below}
 use Rattle.spd_model.specs.Backup.{Rounding}
 use Rattle.spd_model.specs.Turns.{value_limit}
-use Rattle.spd_plain.specs.Expectations.{rounding_of}
+use Rattle.spd_plain.specs.inner.Expectations.{rounding_of}
 use Rattle.spd_model.proofs.CallerLemmas.Bounded.{IsLimited, KeepsWithin, floor_keeps, ceil_keeps, discounted_limit, product_within, return_within}
 
 pub product_fits : (g : ℕ) (e : ℤ) → g ≤ 999999 → IsLimited e → FitsSigned w128 (pos g *ℤ e)

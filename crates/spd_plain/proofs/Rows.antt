@@ -12,8 +12,8 @@ use Rattle.spd_model.specs.Chances.{reward_of}
 use Rattle.spd_model.proofs.CallerLemmas.StateOrder.{get_or-table_of, length-table_of}
 use Rattle.spd_model.proofs.CallerLemmas.Greatest.{fold-push}
 use Rattle.spd_plain.specs.declared.outlook.Outlook.{Outlook}
-use Rattle.spd_plain.specs.Outlooks.{outlook_of, outlooks_at, outlooks_of}
-use Rattle.spd_plain.specs.Sweeps.{bound_on, action_on}
+use Rattle.spd_plain.specs.inner.Outlooks.{outlook_of, outlooks_at, outlooks_of}
+use Rattle.spd_plain.specs.inner.Sweeps.{bound_on, action_on}
 
 -- the greatest of one entry more
 greatest_push : (xs : List ℤ) (y : ℤ) → 0 < length xs → greatest (xs ++ y ∷ []) ≡ int_max (greatest xs) y

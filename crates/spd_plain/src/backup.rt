@@ -7,9 +7,9 @@ ghost use Rattle.spd_model.specs.States.{sizes, at, IsState};
 ghost use Rattle.spd_model.specs.Chances.{discount_one, reward_limit};
 ghost use Rattle.spd_model.specs.Backup.{low_of, high_of, best_low, best_high};
 ghost use Rattle.spd_model.specs.Turns.{value_limit};
-ghost use Rattle.spd_plain.specs.Expectations.{rounding_of};
-ghost use Rattle.spd_plain.specs.Outlooks.{outlook_of, outlooks_at};
-ghost use Rattle.spd_plain.specs.Sweeps.{CanSweep, bound_on, action_on, AreLimited};
+ghost use Rattle.spd_plain.specs.inner.Expectations.{rounding_of};
+ghost use Rattle.spd_plain.specs.inner.Outlooks.{outlook_of, outlooks_at};
+ghost use Rattle.spd_plain.specs.inner.Sweeps.{CanSweep, bound_on, action_on, AreLimited};
 
 use crate::expectation::{Work, expect};
 use crate::outlook::Outlook;

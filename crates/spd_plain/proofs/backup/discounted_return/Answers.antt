@@ -4,7 +4,7 @@ use mir.Syntax.{w128}
 use Rattle.spd_scaled.specs.Scaled.{IsWithin}
 use Rattle.spd_model.specs.Turns.{value_limit}
 use Rattle.spd_model.proofs.CallerLemmas.Bounded.{return_within}
-use Rattle.spd_plain.specs.Expectations.{rounding_of}
+use Rattle.spd_plain.specs.inner.Expectations.{rounding_of}
 use Rattle.spd_plain.proofs.ReturnFits.{product_fits, return_fits, keeps_on}
 use Rattle.spd_plain.proofs.backup.discounted_return.Goals as goal
 
