@@ -4,6 +4,7 @@ use Rattle.std.specs.Prelude.{int_le, int_lt}
 use Rattle.std.specs.Int.{int_max}
 use Rattle.std.specs.Bool.{⊤, if◌then◌else◌}
 use Rattle.std.specs.List.{flat_map, list_any, AllByRecursion}
+use Rattle.std.proofs.lemmas.Bool.{or_right}
 use Rattle.std.proofs.lemmas.List.Folds.{list_any-append}
 use Rattle.std.proofs.lemmas.List.{append-nil, append_assoc, length_push, map-append, length-map, length-append, length-replicate, drop_more, drop_all, take_all}
 use Rattle.std.proofs.Math.ListN.{get_or-map}
@@ -12,8 +13,8 @@ use Rattle.std.specs.List.Sorted.{IsStrictlySortedBy}
 use Rattle.spd_scaled.specs.Scaled.{floor_div}
 use Rattle.spd_model.specs.Ranges.{Range, Group, group_of, groups_from, groups_of, joined, is_same, middle_of, value_in}
 use Rattle.spd_plain.specs.declared.ranges.Bounds.{Bounds}
-use Rattle.spd_plain.specs.Bounds.{range_of, bounds_cmp}
-use Rattle.spd_plain.proofs.RangeOrder.{other_if_below, is_same_itself, or_true}
+use Rattle.spd_plain.specs.inner.Bounds.{range_of, bounds_cmp}
+use Rattle.spd_plain.proofs.RangeOrder.{other_if_below, is_same_itself}
 
 -- the middle of its group for each member
 abbrev pub middles : Group → List ℤ
@@ -43,19 +44,19 @@ abbrev pub Fresh : List Range → List Range → Type 0
 Fresh ms [] = ⊤
 Fresh ms (p ∷ ps) = (list_any (is_same p) ms ≡ false) × Fresh (ms ++ p ∷ []) ps
 
-or_left : (a b : Bool) → (a || b) ≡ false → a ≡ false
-or_left true b h = h
-or_left false b h = refl
+left_false : (a b : Bool) → (a || b) ≡ false → a ≡ false
+left_false true b h = h
+left_false false b h = refl
 
-or_right : (a b : Bool) → (a || b) ≡ false → b ≡ false
-or_right true b h = absurd (true≢false h)
-or_right false b h = h
+right_false : (a b : Bool) → (a || b) ≡ false → b ≡ false
+right_false true b h = absurd (true≢false h)
+right_false false b h = h
 
 none_before : (f : Range → Bool) (xs ys : List Range) → list_any f (xs ++ ys) ≡ false → list_any f xs ≡ false
-none_before f xs ys h = or_left (list_any f xs) (list_any f ys) (sym (list_any-append f xs ys) ∙ h)
+none_before f xs ys h = left_false (list_any f xs) (list_any f ys) (sym (list_any-append f xs ys) ∙ h)
 
 none_after : (f : Range → Bool) (xs ys : List Range) → list_any f (xs ++ ys) ≡ false → list_any f ys ≡ false
-none_after f xs ys h = or_right (list_any f xs) (list_any f ys) (sym (list_any-append f xs ys) ∙ h)
+none_after f xs ys h = right_false (list_any f xs) (list_any f ys) (sym (list_any-append f xs ys) ∙ h)
 
 narrow : (ms ns ps : List Range) → AllByRecursion (λ q. list_any (is_same q) (ms ++ ns) ≡ false) ps → AllByRecursion (λ q. list_any (is_same q) ms ≡ false) ps
 narrow ms ns [] h = tt
@@ -74,7 +75,7 @@ fresh_later ms ns (p ∷ ps) h =
 each_member : (before qs : List Range) → AllByRecursion (λ q. list_any (is_same q) (before ++ qs) ≡ true) qs
 each_member before [] = tt
 each_member before (q ∷ qs) = (
-  list_any-append (is_same q) before (q ∷ qs) ∙ or_true (list_any (is_same q) before) _ (ap (λ b. b || list_any (is_same q) qs) (is_same_itself q)),
+  list_any-append (is_same q) before (q ∷ qs) ∙ or_right (list_any (is_same q) before) _ (ap (λ b. b || list_any (is_same q) qs) (is_same_itself q)),
   subst (λ l. AllByRecursion (λ r. list_any (is_same r) l ≡ true) qs) (append_assoc before (q ∷ []) qs) (each_member (before ++ q ∷ []) qs),
 )
 

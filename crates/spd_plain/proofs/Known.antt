@@ -20,10 +20,11 @@ use Rattle.spd_plain.specs.declared.reach.Reach.{Reach}
 use Rattle.spd_plain.specs.declared.reach.Reach.TheVariants.{Own, Later}
 use Rattle.spd_plain.specs.declared.chances.Chances.{Chances}
 use Rattle.spd_plain.specs.declared.chances.Chances.TheVariants.{Kept, Read}
-use Rattle.spd_plain.specs.Space.{axis_of, axes_of, IsAxis, state_limit}
-use Rattle.spd_plain.specs.Reach.{latest, reach_at, reaches_after}
-use Rattle.spd_plain.specs.Chances.{chance_of, values_of, IsKept}
-use Rattle.spd_plain.specs.Outlooks.{known_of}
+use Rattle.spd_plain.specs.Space.{state_limit}
+use Rattle.spd_plain.specs.inner.Axes.{axis_of, axes_of, IsAxis}
+use Rattle.spd_plain.specs.inner.Reach.{latest, reach_at, reaches_after}
+use Rattle.spd_plain.specs.inner.Chances.{chance_of, values_of, IsKept}
+use Rattle.spd_plain.specs.inner.Outlooks.{known_of}
 use Rattle.spd_plain.proofs.Tables.{few_from}
 use Rattle.spd_plain.proofs.TableValues.{value-own}
 

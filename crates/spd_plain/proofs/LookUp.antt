@@ -5,7 +5,7 @@ use Rattle.std.specs.List.{list_any, Contains}
 use Rattle.std.specs.List.Sorted.{IsStrictlySortedBy, IsSortedBy, IsPartitionPoint, IsBinarySearchResult}
 use Rattle.std.specs.Ordering.{is_lt, is_eq, ordering_reverse}
 use Rattle.std.specs.Result.{IsOk}
-use Rattle.std.proofs.lemmas.Bool.{and_parts, or_cases, cases_lt}
+use Rattle.std.proofs.lemmas.Bool.{or_right, and_parts, or_cases, cases_lt}
 use Rattle.std.proofs.lemmas.Bool.Decides.{Decides-int_eq}
 use Rattle.std.proofs.lemmas.Cmp.{tied_itself}
 use Rattle.std.proofs.lemmas.List.{get_or-map, length-map, map-append, take_more}
@@ -13,8 +13,8 @@ use Rattle.std.proofs.lemmas.List.Sorted.{searchable_from_sorted}
 use Rattle.std.proofs.lemmas.Map.Keys.{Less-from_sorted}
 use Rattle.spd_model.specs.Ranges.{Range, is_same, is_before, with_range, in_order}
 use Rattle.spd_plain.specs.declared.ranges.Bounds.{Bounds}
-use Rattle.spd_plain.specs.Bounds.{range_of, bounds_cmp}
-use Rattle.spd_plain.proofs.RangeOrder.{bounds_cmp_total, is_same_itself, is_same_is, or_true}
+use Rattle.spd_plain.specs.inner.Bounds.{range_of, bounds_cmp}
+use Rattle.spd_plain.proofs.RangeOrder.{bounds_cmp_total, is_same_itself, is_same_is}
 
 -- ---- each range of a list is among its distinct ranges
 
@@ -34,7 +34,7 @@ has_placed (q ∷ qs) p =
     (λ h. ap (λ b. b || list_any (is_same p) qs) h)
     (by_test (λ rs. list_any (is_same p) rs ≡ true) (is_before p q) (p ∷ q ∷ qs) (q ∷ with_range qs p)
     (ap (λ b. b || list_any (is_same p) (q ∷ qs)) (is_same_itself p))
-    (or_true (is_same p q) _ (has_placed qs p)))
+    (or_right (is_same p q) _ (has_placed qs p)))
 
 or_later : (a b c : Bool) → (a || b) ≡ true → (b ≡ true → c ≡ true) → (a || c) ≡ true
 or_later true b c h k = refl
@@ -45,7 +45,7 @@ has_kept q [] p h = absurd (true≢false (sym h))
 has_kept q (r ∷ rs) p h =
     by_test (λ xs. list_any (is_same q) xs ≡ true) (is_same p r) (r ∷ rs) _ h
     (by_test (λ xs. list_any (is_same q) xs ≡ true) (is_before p r) (p ∷ r ∷ rs) (r ∷ with_range rs p)
-    (or_true (is_same q p) _ h)
+    (or_right (is_same q p) _ h)
     (or_later (is_same q r) (list_any (is_same q) rs) _ h (has_kept q rs p)))
 
 has_all : (q : Range) (rs : List Range) (xs : List Bounds) → list_any (is_same q) rs ≡ true → list_any (is_same q) (fold with_range rs (map range_of xs)) ≡ true

@@ -15,8 +15,8 @@ use Rattle.spd_model.proofs.CallerLemmas.Sums.{sum_below-cong}
 use Rattle.spd_plain.specs.declared.reach.Reach.{Reach}
 use Rattle.spd_plain.specs.declared.reach.Reach.TheVariants.{Own, Later}
 use Rattle.spd_plain.specs.declared.space.Axis.{Axis}
-use Rattle.spd_plain.specs.Space.{IsAxis}
-use Rattle.spd_plain.specs.Reach.{reach_at, places_of}
+use Rattle.spd_plain.specs.inner.Axes.{IsAxis}
+use Rattle.spd_plain.specs.inner.Reach.{reach_at, places_of}
 use Rattle.spd_plain.proofs.Tables.{after_is, after_some}
 use Rattle.spd_plain.proofs.Known.{own_same}
 

@@ -7,21 +7,17 @@ use Rattle.std.specs.Cmp.{IsTotalOrder, on_total}
 use Rattle.std.proofs.lemmas.Cmp.{then_total, int_cmp_total, int_eq_equiv}
 use Rattle.std.proofs.lemmas.List.{take_more}
 use Rattle.std.specs.BTreeSet.{insert_key}
+use Rattle.std.specs.Cmp.{tied_then}
 use Rattle.spd_model.specs.Ranges.{Range, is_same, is_before, with_range, in_order}
 use Rattle.spd_plain.specs.declared.ranges.Bounds.{Bounds}
-use Rattle.spd_plain.specs.Bounds.{range_of, bounds_cmp}
+use Rattle.spd_plain.specs.inner.Bounds.{range_of, bounds_cmp}
 
 -- the order of ranges as one answer
 abbrev pub range_cmp : Range → Range → Ordering
 range_cmp p q = ordering_then (int_cmp p.low q.low) (int_cmp p.high q.high)
 
-same_parts : (x y : Ordering) → (is_eq x && is_eq y) ≡ is_eq (ordering_then x y)
-same_parts Less y = refl
-same_parts Equal y = refl
-same_parts Greater y = refl
-
 pub is_same_is : (p q : Range) → is_same p q ≡ is_eq (range_cmp p q)
-is_same_is p q = same_parts (int_cmp p.low q.low) (int_cmp p.high q.high)
+is_same_is p q = tied_then (int_cmp p.low q.low) (int_cmp p.high q.high)
 
 before_parts : (a b c d : Bool) → (a || (is_eq (cond a Less (cond b Greater Equal)) && c)) ≡ is_lt (ordering_then (cond a Less (cond b Greater Equal)) (cond c Less (cond d Greater Equal)))
 before_parts true b c d = refl
@@ -79,7 +75,3 @@ other_if_below a b h =
 
 pub is_same_itself : (p : Range) → is_same p p ≡ true
 is_same_itself p = rw (int_eq_equiv.refl p.low, int_eq_equiv.refl p.high) refl
-
-pub or_true : (a b : Bool) → b ≡ true → (a || b) ≡ true
-or_true true b h = refl
-or_true false b h = h

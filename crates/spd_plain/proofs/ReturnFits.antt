@@ -6,12 +6,19 @@ use mir.Syntax.{w128}
 use Rattle.spd_scaled.specs.Scaled.{IsWithin, floor_div}
 use Rattle.spd_scaled.proofs.CallerLemmas.Magnitude.{fits_within}
 use Rattle.spd_model.specs.Chances.{discount_one, reward_limit}
+use Rattle.spd_model.specs.declared.Side.{Side}
+use Rattle.spd_model.specs.declared.Side.TheVariants.{Above, Below}
 use Rattle.spd_model.specs.Backup.{Rounding}
 use Rattle.spd_model.specs.Turns.{value_limit}
-use Rattle.spd_model.proofs.CallerLemmas.Bounded.{IsLimited, KeepsWithin, floor_keeps, discounted_limit, product_within, return_within}
+use Rattle.spd_plain.specs.inner.Expectations.{rounding_of}
+use Rattle.spd_model.proofs.CallerLemmas.Bounded.{IsLimited, KeepsWithin, floor_keeps, ceil_keeps, discounted_limit, product_within, return_within}
 
 pub product_fits : (g : ℕ) (e : ℤ) → g ≤ 999999 → IsLimited e → FitsSigned w128 (pos g *ℤ e)
 product_fits g e p h = fits_within w128 (pos discounted_limit *ℤ pos discount_one) _ (omega (arith, ints)) (product_within floor_div floor_keeps g e p h)
+
+pub keeps_on : (side : Side) → KeepsWithin (rounding_of side)
+keeps_on Above = ceil_keeps
+keeps_on Below = floor_keeps
 
 pub return_fits : (round : Rounding) → KeepsWithin round → (reward : ℤ) (g : ℕ) (e : ℤ) → IsWithin (pos reward_limit) reward → g ≤ 999999 → IsLimited e
     → FitsSigned w128 (reward +ℤ round (pos g *ℤ e) (pos discount_one))

@@ -1,9 +1,8 @@
--- What stands in a row of outlooks, and the greatest over a row.
-use Rattle.std.proofs.Common.{◌≡◌, ◌∙◌, ℕ, ◌+◌, ◌<◌, ◌≤◌, List, [], ◌∷◌, ◌++◌, length, map, take, get_or, Contains, ℤ, refl, ap, sym, subst, arith}
+-- The greatest over the actions, and what stands in the rows of a table.
+use Rattle.std.proofs.Common.{◌≡◌, ◌∙◌, ℕ, ◌+◌, ◌<◌, ◌≤◌, List, [], ◌∷◌, ◌++◌, length, map, take, get_or, ℤ, refl, ap, sym, arith}
 use Rattle.std.specs.Int.{int_max}
-use Rattle.std.proofs.lemmas.List.{get_or-map, take_more, map_push, length-take, take_all}
+use Rattle.std.proofs.lemmas.List.{take_more, map_push, length-take, take_all}
 use Rattle.std.proofs.Math.ListN.{length-map}
-use Rattle.spd_model.specs.declared.process.Action.{Action}
 use Rattle.spd_model.specs.declared.Side.{Side}
 use Rattle.spd_model.specs.declared.Side.TheVariants.{Above, Below}
 use Rattle.spd_model.specs.Process.{Process}
@@ -13,27 +12,10 @@ use Rattle.spd_model.specs.Chances.{reward_of}
 use Rattle.spd_model.proofs.CallerLemmas.StateOrder.{get_or-table_of, length-table_of}
 use Rattle.spd_model.proofs.CallerLemmas.Greatest.{fold-push}
 use Rattle.spd_plain.specs.declared.outlook.Outlook.{Outlook}
-use Rattle.spd_plain.specs.Outlooks.{outlook_of, outlooks_at, outlooks_of}
-use Rattle.spd_plain.specs.Sweeps.{bound_on, action_on}
+use Rattle.spd_plain.specs.inner.Outlooks.{outlook_of, outlooks_at, outlooks_of}
+use Rattle.spd_plain.specs.inner.Sweeps.{bound_on, action_on}
 
-pub action_read : (m : Process) (actions : List Action) (k : ℕ) (a : Action) → actions ≡ m.actions → k < length actions → a ≡ get_or actions k a → Contains m.actions a
-action_read m actions k a are near is = subst (λ l. Contains l a) are (k, near, sym is)
-
-pub outlook_read : (m : Process) (s : List ℕ) (row : List Outlook) (actions : List Action) (k : ℕ) (x : Outlook) (a : Action) → row ≡ outlooks_at m s → actions ≡ m.actions
-    → k < length actions → x ≡ get_or row k x → a ≡ get_or actions k a → x ≡ outlook_of m s a
-outlook_read m s row actions k x a row_is are near x_is a_is =
-    x_is ∙ ap (λ (l : List Outlook). get_or l k x) row_is
-    ∙ get_or-map (outlook_of m s) m.actions k a x (omega (arith, ap length are))
-    ∙ ap (outlook_of m s) (ap (λ (l : List Action). get_or l k a) (sym are) ∙ sym a_is)
-
-pub length-row : (m : Process) (s : List ℕ) (row : List Outlook) (actions : List Action) → row ≡ outlooks_at m s → actions ≡ m.actions → length row ≡ length actions
-length-row m s row actions row_is are = ap length row_is ∙ length-map m.actions (outlook_of m s) ∙ sym (ap length are)
-
--- the greatest of one entry, and of one more
-pub take_one : {X : Type 0} (f : X → ℤ) (xs : List X) (d : X) → 0 < length xs → map f (take 1 xs) ≡ f (get_or xs 0 d) ∷ []
-take_one f [] d some = absurd (omega arith)
-take_one f (x ∷ xs) d some = refl
-
+-- the greatest of one entry more
 greatest_push : (xs : List ℤ) (y : ℤ) → 0 < length xs → greatest (xs ++ y ∷ []) ≡ int_max (greatest xs) y
 greatest_push [] y some = absurd (omega arith)
 greatest_push (x ∷ xs) y some = fold-push x xs y

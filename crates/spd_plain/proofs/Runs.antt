@@ -16,8 +16,8 @@ use Rattle.spd_model.proofs.CallerLemmas.Bounded.{turn_limited, residual_within,
 use Rattle.spd_model.proofs.CallerLemmas.Finds.{first_later}
 use Rattle.spd_model.proofs.CallerLemmas.StateOrder.{length-table_of}
 use Rattle.spd_plain.specs.declared.space.Space.{Space}
-use Rattle.spd_plain.specs.Space.{IsSpace}
-use Rattle.spd_plain.specs.Sweeps.{CanSweep}
+use Rattle.spd_plain.specs.inner.Axes.{IsSpace}
+use Rattle.spd_plain.specs.inner.Sweeps.{CanSweep}
 
 -- The search for the stop, from turn k on with `left` turns before the limit: it goes on, or ends at the limit.
 module _ (rule : ℕ → Bool) (k : ℕ) where

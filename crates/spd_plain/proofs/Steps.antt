@@ -16,9 +16,9 @@ use Rattle.spd_model.proofs.CallerLemmas.StateOrder.{IsState-get_or, at-get_or, 
 use Rattle.spd_model.proofs.CallerLemmas.Sums.{sum_below-cong}
 use Rattle.spd_plain.specs.declared.space.Axis.{Axis}
 use Rattle.spd_plain.specs.declared.chances.Chances.TheVariants.{Kept}
-use Rattle.spd_plain.specs.Space.{IsAxis}
-use Rattle.spd_plain.specs.Chances.{chance_of, TellsChances, IsKept}
-use Rattle.spd_plain.specs.Expectations.{entry, weighted, AreWeights}
+use Rattle.spd_plain.specs.inner.Axes.{IsAxis}
+use Rattle.spd_plain.specs.inner.Chances.{chance_of, TellsChances, IsKept}
+use Rattle.spd_plain.specs.inner.Expectations.{entry, weighted, AreWeights}
 use Rattle.spd_plain.proofs.Tables.{size_is, after_is, axis_more, after_some, counted}
 use Rattle.spd_plain.proofs.Weights.{entry_below}
 

@@ -17,8 +17,8 @@ use Rattle.spd_model.proofs.CallerLemmas.Finds.{find_first}
 use Rattle.spd_model.proofs.CallerLemmas.Gaps.{has_gap}
 use Rattle.spd_model.proofs.CallerLemmas.StateOrder.{length-table_of, get_or-table_of, at-get_or}
 use Rattle.spd_plain.specs.declared.ranges.Bounds.{Bounds}
-use Rattle.spd_plain.specs.Bounds.{range_of, IsSmall}
-use Rattle.spd_plain.specs.Sweeps.{action_on, AreLimited}
+use Rattle.spd_plain.specs.inner.Bounds.{range_of, IsSmall}
+use Rattle.spd_plain.specs.inner.Sweeps.{action_on, AreLimited}
 
 -- the range of a state
 abbrev pub range_at : Process → (List ℕ → ℤ) → List ℕ → Range

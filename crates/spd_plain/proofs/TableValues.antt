@@ -9,7 +9,7 @@ use Rattle.spd_model.specs.Trees.{read_tree, read_kids, read_diagrams, read_in, 
 use Rattle.spd_model.specs.Lawful.{FitsTable}
 use Rattle.spd_model.proofs.CallerLemmas.Lists.{All-one}
 use Rattle.spd_model.proofs.CallerLemmas.TreeValues.{GoesAlike, value_same}
-use Rattle.spd_plain.specs.Reach.{latest}
+use Rattle.spd_plain.specs.inner.Reach.{latest}
 use Rattle.spd_plain.proofs.Tables.{index-from, index-at}
 
 -- a part follows next values of variables below n alone

@@ -10,7 +10,7 @@ use Rattle.spd_model.specs.States.{sizes, states, state_count, IsState}
 use Rattle.spd_model.specs.Chances.{sizes_after}
 use Rattle.spd_model.proofs.CallerLemmas.StateOrder.{IsState-get_or, length-states, rank-get_or, get_or-states, length-sizes, sizes_some, state_count_some}
 use Rattle.spd_plain.specs.declared.space.Axis.{Axis}
-use Rattle.spd_plain.specs.Space.{IsAxis}
+use Rattle.spd_plain.specs.inner.Axes.{IsAxis}
 
 -- the state of the first variable's value v and the others' k-th state
 pub get_or-states_more : (size : ℕ) (sizes : List ℕ) (v k : ℕ) → v < size → k < state_count sizes

@@ -11,7 +11,7 @@ use Rattle.spd_model.specs.Numbers.{sum_below}
 use Rattle.spd_model.specs.Chances.{one}
 use Rattle.spd_model.specs.Turns.{value_limit}
 use Rattle.spd_model.proofs.CallerLemmas.Sums.{sum_below-cong, sum_below_grows, sum_below_within}
-use Rattle.spd_plain.specs.Expectations.{entry, weighted, AreWeights}
+use Rattle.spd_plain.specs.inner.Expectations.{entry, weighted, AreWeights}
 
 -- the place of an entry is below the number of entries
 pub entry_below : (v size k after : ℕ) → v < size → k < after → v * after + k < size * after

@@ -1,9 +1,3 @@
-pub mod Bounds
 pub mod Space
-pub mod Reach
-pub mod Chances
-pub mod Faults
-pub mod Outlooks
-pub mod Expectations
-pub mod Sweeps
 pub mod Plain
+pub mod inner

@@ -1,13 +1,15 @@
 //! The Bellman backup at one state.
 
-ghost use Rattle.std.specs.Prelude.{◌≡◌, ◌<◌, length, map, pos, Contains, IfOk};
+ghost use Rattle.std.specs.Prelude.{◌≡◌, ◌<◌, ◌≤◌, ◌+ℤ◌, ◌*ℤ◌, length, map, pos, Contains, IfOk};
 ghost use Rattle.spd_scaled.specs.Scaled.{IsWithin};
 ghost use Rattle.spd_model.specs.Numbers.{greatest};
 ghost use Rattle.spd_model.specs.States.{sizes, at, IsState};
+ghost use Rattle.spd_model.specs.Chances.{discount_one, reward_limit};
 ghost use Rattle.spd_model.specs.Backup.{low_of, high_of, best_low, best_high};
 ghost use Rattle.spd_model.specs.Turns.{value_limit};
-ghost use Rattle.spd_plain.specs.Outlooks.{outlook_of, outlooks_at};
-ghost use Rattle.spd_plain.specs.Sweeps.{CanSweep, bound_on, action_on, AreLimited};
+ghost use Rattle.spd_plain.specs.inner.Expectations.{rounding_of};
+ghost use Rattle.spd_plain.specs.inner.Outlooks.{outlook_of, outlooks_at};
+ghost use Rattle.spd_plain.specs.inner.Sweeps.{CanSweep, bound_on, action_on, AreLimited};
 
 use crate::expectation::{Work, expect};
 use crate::outlook::Outlook;
@@ -17,6 +19,28 @@ use crate::space::Space;
 use spd_model::{Action, Model, Side, State};
 use spd_scaled::{ceil_div, floor_div};
 use std::alloc::AllocError;
+
+/// A quotient by one, as a discount, rounded up above and down below.
+fn rounded(side: Side, product: i128) -> i128
+    ensures { result ≡ rounding_of side product (pos discount_one) }
+{
+    match side {
+        Side::Above => ceil_div(product, DISCOUNT_ONE),
+        Side::Below => floor_div(product, DISCOUNT_ONE),
+    }
+}
+
+/// A reward plus a discounted expectation, rounded up above and down below.
+fn discounted_return(reward: i128, discount: u32, expectation: i128, side: Side) -> i128
+    requires reward { IsWithin (pos reward_limit) reward }
+    requires discount { discount ≤ 999999 }
+    requires expectation { IsWithin (pos value_limit) expectation }
+    ensures value { result ≡ reward +ℤ rounding_of side (pos discount *ℤ expectation) (pos discount_one) }
+    ensures within { IsWithin (pos value_limit) result }
+{
+    let product = discount as i128 * expectation;
+    reward + rounded(side, product)
+}
 
 /// The lower and the upper bound of the return of `action` at `s`, where `values` follows.
 fn bounds_of(
@@ -37,10 +61,9 @@ fn bounds_of(
     ensures limited { IfOk result AreLimited }
 {
     expect(model, action, outlook, s, space, values, work)?;
-    let discount = model.discount as i128;
     Ok(Bounds {
-        low: outlook.reward + floor_div(discount * work.low[0], DISCOUNT_ONE),
-        high: outlook.reward + ceil_div(discount * work.high[0], DISCOUNT_ONE),
+        low: discounted_return(outlook.reward, model.discount, work.low[0], Side::Below),
+        high: discounted_return(outlook.reward, model.discount, work.high[0], Side::Above),
     })
 }
 

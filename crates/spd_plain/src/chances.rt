@@ -5,8 +5,9 @@ ghost use Rattle.spd_scaled.specs.Scaled.{IsWithin};
 ghost use Rattle.spd_model.specs.Numbers.{numbers_below};
 ghost use Rattle.spd_model.specs.States.{sizes, states, state_count, IsState};
 ghost use Rattle.spd_model.specs.Chances.{sizes_after, sum_of};
-ghost use Rattle.spd_plain.specs.Space.{IsSpace, IsAxis, state_limit};
-ghost use Rattle.spd_plain.specs.Chances.{chance_of, values_of, IsKept, TellsChances};
+ghost use Rattle.spd_plain.specs.Space.{state_limit};
+ghost use Rattle.spd_plain.specs.inner.Axes.{IsSpace, IsAxis};
+ghost use Rattle.spd_plain.specs.inner.Chances.{chance_of, values_of, IsKept, TellsChances};
 
 use crate::space::{Axis, Space};
 use spd_model::{Action, Model, State};

@@ -6,9 +6,10 @@ ghost use Rattle.spd_model.specs.States.{sizes, state_count, at, IsState};
 ghost use Rattle.spd_model.specs.Chances.{one, IsValid};
 ghost use Rattle.spd_model.specs.Backup.{expectation};
 ghost use Rattle.spd_model.specs.Turns.{value_limit};
-ghost use Rattle.spd_plain.specs.Space.{IsSpace, state_limit};
-ghost use Rattle.spd_plain.specs.Outlooks.{outlook_of};
-ghost use Rattle.spd_plain.specs.Expectations.{rounding_of, weighted, AreWeights};
+ghost use Rattle.spd_plain.specs.Space.{state_limit};
+ghost use Rattle.spd_plain.specs.inner.Axes.{IsSpace};
+ghost use Rattle.spd_plain.specs.inner.Outlooks.{outlook_of};
+ghost use Rattle.spd_plain.specs.inner.Expectations.{rounding_of, weighted, AreWeights};
 
 use crate::chances::tell_chances;
 use crate::outlook::Outlook;

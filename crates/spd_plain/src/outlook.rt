@@ -2,9 +2,9 @@
 
 ghost use Rattle.std.specs.Prelude.{◌≡◌, ◌<◌, length, map, IfOk, Contains};
 ghost use Rattle.spd_model.specs.States.{sizes, IsState};
-ghost use Rattle.spd_plain.specs.Space.{IsAxis, IsSpace};
-ghost use Rattle.spd_plain.specs.Reach.{reach_at, reaches_after, reaches_of};
-ghost use Rattle.spd_plain.specs.Outlooks.{known_of, outlook_of, outlooks_at as outlooks_at_of, outlooks_of};
+ghost use Rattle.spd_plain.specs.inner.Axes.{IsAxis, IsSpace};
+ghost use Rattle.spd_plain.specs.inner.Reach.{reach_at, reaches_after, reaches_of};
+ghost use Rattle.spd_plain.specs.inner.Outlooks.{known_of, outlook_of, outlooks_at as outlooks_at_of, outlooks_of};
 
 use crate::chances::{Chances, kept_chances};
 use crate::reach::Reach;

@@ -6,7 +6,7 @@
 ghost use Rattle.std.specs.Prelude.{◌≡◌, All, IfOk, map, pos, ◌≤ℤ◌, ◌^◌};
 ghost use Rattle.std.specs.List.Sorted.{IsStrictlySortedBy};
 ghost use Rattle.spd_model.specs.Ranges.{in_order, group_of, groups_of, middle_of, value_in, merged};
-ghost use Rattle.spd_plain.specs.Bounds.{range_of, bounds_cmp, IsSmall};
+ghost use Rattle.spd_plain.specs.inner.Bounds.{range_of, bounds_cmp, IsSmall};
 
 use spd_scaled::floor_div;
 use std::alloc::{AllocError, Global};

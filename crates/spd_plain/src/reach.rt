@@ -2,7 +2,7 @@
 
 ghost use Rattle.std.specs.Prelude.{◌≡◌, ◌<◌, [], length, map, Contains, IfOk, slice_index_or};
 ghost use Rattle.spd_model.specs.Trees.{read_tree, read_diagrams};
-ghost use Rattle.spd_plain.specs.Reach.{latest, reaches_after as reaches_after_of, reaches_of};
+ghost use Rattle.spd_plain.specs.inner.Reach.{latest, reaches_after as reaches_after_of, reaches_of};
 
 use spd_model::{Action, Model, Tree};
 use sqlite_items::Items;

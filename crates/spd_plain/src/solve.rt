@@ -6,10 +6,11 @@ ghost use Rattle.spd_model.specs.Chances.{IsValid};
 ghost use Rattle.spd_model.specs.States.{sizes, at, state_count};
 ghost use Rattle.spd_model.specs.Turns.{stops_at, error_of as error_of_residual, turn as turn_of, stop_of};
 ghost use Rattle.spd_model.specs.ResultText.{result_of};
-ghost use Rattle.spd_plain.specs.Outlooks.{outlooks_of};
-ghost use Rattle.spd_plain.specs.Reach.{reaches_of};
-ghost use Rattle.spd_plain.specs.Space.{IsSpace, state_limit};
-ghost use Rattle.spd_plain.specs.Sweeps.{CanSweep, IsSweep, AreLimited, stop_record};
+ghost use Rattle.spd_plain.specs.inner.Outlooks.{outlooks_of};
+ghost use Rattle.spd_plain.specs.inner.Reach.{reaches_of};
+ghost use Rattle.spd_plain.specs.Space.{state_limit};
+ghost use Rattle.spd_plain.specs.inner.Axes.{IsSpace};
+ghost use Rattle.spd_plain.specs.inner.Sweeps.{CanSweep, IsSweep, AreLimited, stop_record};
 ghost use Rattle.spd_plain.specs.Plain.{plain_of, told_of, Cause, IsShaped, IsPlaced, IsInvalid};
 
 use crate::expectation::Work;

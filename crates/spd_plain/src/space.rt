@@ -2,7 +2,8 @@
 
 ghost use Rattle.std.specs.Prelude.{◌≡◌, ◌<◌, ◌≤◌, IfOk, IfErr, Some};
 ghost use Rattle.spd_model.specs.States.{sizes, states, state_count, IsState};
-ghost use Rattle.spd_plain.specs.Space.{axes_of, IsSpace, state_limit, first_large_product};
+ghost use Rattle.spd_plain.specs.Space.{state_limit, first_large_product};
+ghost use Rattle.spd_plain.specs.inner.Axes.{axes_of, IsSpace};
 
 use spd_model::{Model, State};
 use sqlite_items::Items;

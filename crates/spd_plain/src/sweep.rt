@@ -9,8 +9,8 @@ ghost use Rattle.spd_model.specs.States.{sizes, states, at, table_of, state_coun
 ghost use Rattle.spd_model.specs.Chances.{IsValid};
 ghost use Rattle.spd_model.specs.Backup.{policy_of};
 ghost use Rattle.spd_model.specs.Turns.{value_limit, start_of, place_of, state_of_residual};
-ghost use Rattle.spd_plain.specs.Outlooks.{outlooks_of};
-ghost use Rattle.spd_plain.specs.Sweeps.{CanSweep, IsSweep, AreLimited, place_record};
+ghost use Rattle.spd_plain.specs.inner.Outlooks.{outlooks_of};
+ghost use Rattle.spd_plain.specs.inner.Sweeps.{CanSweep, IsSweep, AreLimited, place_record};
 
 use crate::backup::{best_action, best_bounds, best_reward};
 use crate::expectation::Work;

@@ -8,9 +8,9 @@ ghost use Rattle.spd_model.specs.States.{sizes, states, IsState};
 ghost use Rattle.spd_model.specs.Trees.{value_of};
 ghost use Rattle.spd_model.specs.Lawful.{AreRewards};
 ghost use Rattle.spd_model.specs.Chances.{reward_of, first_wrong_sum as first_wrong_sum_of, first_wide_reward as first_wide_reward_of};
-ghost use Rattle.spd_plain.specs.Faults.{sum_record, reward_record, wrong_sum_at as wrong_sum_at_of, wrong_sum_of_var as wrong_sum_of_var_of, wrong_sum_after as wrong_sum_after_of, wide_reward_after as wide_reward_after_of};
-ghost use Rattle.spd_plain.specs.Reach.{places_of, reach_at, reaches_after, reaches_of};
-ghost use Rattle.spd_plain.specs.Space.{IsSpace, IsAxis};
+ghost use Rattle.spd_plain.specs.inner.Faults.{sum_record, reward_record, wrong_sum_at as wrong_sum_at_of, wrong_sum_of_var as wrong_sum_of_var_of, wrong_sum_after as wrong_sum_after_of, wide_reward_after as wide_reward_after_of};
+ghost use Rattle.spd_plain.specs.inner.Reach.{places_of, reach_at, reaches_after, reaches_of};
+ghost use Rattle.spd_plain.specs.inner.Axes.{IsSpace, IsAxis};
 
 use crate::chances::chance_sum;
 use crate::reach::Reach;

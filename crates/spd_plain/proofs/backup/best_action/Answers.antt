@@ -8,7 +8,7 @@ use Rattle.spd_model.specs.Process.{Process}
 use Rattle.spd_model.specs.Numbers.{greatest, first_place}
 use Rattle.spd_model.specs.States.{sizes, at}
 use Rattle.spd_model.proofs.CallerLemmas.Greatest.{first_best_more, first_best_new, first_place_is}
-use Rattle.spd_plain.specs.Sweeps.{bound_on}
+use Rattle.spd_plain.specs.inner.Sweeps.{bound_on}
 use Rattle.spd_plain.proofs.Rows.{first_on}
 use Rattle.spd_plain.proofs.backup.best_action.Goals as goal
 use Rattle.spd_plain.proofs.backup.best_action.Goals.{then-best-bound, else-best-bound}

@@ -2,7 +2,7 @@ use Rattle.std.proofs.Common.{◌≡◌, ◌<◌, map, take}
 use Rattle.spd_model.specs.Numbers.{greatest}
 use Rattle.spd_model.specs.States.{sizes, at}
 use Rattle.spd_model.specs.Backup.{low_of, high_of}
-use Rattle.spd_plain.specs.Sweeps.{AreLimited}
+use Rattle.spd_plain.specs.inner.Sweeps.{AreLimited}
 use Rattle.spd_plain.proofs.backup.best_bounds.Given as goal
 
 abbrev pub invariant-loop-number : goal.invariant-loop-number

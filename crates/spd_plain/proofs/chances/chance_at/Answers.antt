@@ -4,7 +4,7 @@ use mir.Syntax.{w128}
 use Rattle.spd_model.specs.Lawful.{IsLawful}
 use Rattle.spd_model.specs.States.{sizes}
 use Rattle.spd_model.proofs.CallerLemmas.StateOrder.{length-states}
-use Rattle.spd_plain.specs.Chances.{chance_of}
+use Rattle.spd_plain.specs.inner.Chances.{chance_of}
 use Rattle.spd_plain.proofs.Tables.{near_state, own_state, state_is, state_read}
 use Rattle.spd_plain.proofs.chances.chance_at.Goals as goal
 

@@ -6,7 +6,7 @@ use Rattle.spd_model.specs.Numbers.{sum_below}
 use Rattle.spd_model.specs.States.{states}
 use Rattle.spd_model.specs.Chances.{sizes_after, probability}
 use Rattle.spd_model.proofs.CallerLemmas.Sums.{sum_below_more}
-use Rattle.spd_plain.specs.Chances.{chance_of}
+use Rattle.spd_plain.specs.inner.Chances.{chance_of}
 use Rattle.spd_plain.proofs.Sums.{within_more, sum_fits}
 use Rattle.spd_plain.proofs.Tables.{axis_more, size_is}
 use Rattle.spd_plain.proofs.chances.chance_sum.Goals as goal

@@ -4,7 +4,7 @@ use mir.Syntax.{w128}
 use Rattle.spd_model.specs.Lawful.{IsLawful}
 use Rattle.spd_model.specs.States.{sizes, states}
 use Rattle.spd_model.specs.Chances.{sizes_after}
-use Rattle.spd_plain.specs.Chances.{chance_of}
+use Rattle.spd_plain.specs.inner.Chances.{chance_of}
 use Rattle.spd_plain.proofs.Tables.{axis_more, after_some, map_below_more}
 use Rattle.spd_plain.proofs.Weights.{entry_below}
 use Rattle.spd_plain.proofs.chances.kept_chances.Goals as goal

@@ -2,7 +2,7 @@ use Rattle.std.proofs.Common.{◌≡◌, ◌∷◌, [], map, slice_index_or}
 use Rattle.spd_model.specs.Numbers.{numbers_below}
 use Rattle.spd_model.specs.States.{states}
 use Rattle.spd_model.specs.Chances.{sizes_after}
-use Rattle.spd_plain.specs.Chances.{chance_of}
+use Rattle.spd_plain.specs.inner.Chances.{chance_of}
 use Rattle.spd_plain.proofs.chances.kept_chances.Given as goal
 
 abbrev pub invariant-loop-value : goal.invariant-loop-value

@@ -3,7 +3,7 @@ use Rattle.std.proofs.lemmas.Int.{to_z-of_z}
 use Rattle.std.proofs.lemmas.List.{get_or_append_left, get_or_push}
 use mir.Syntax.{w128}
 use Rattle.spd_model.specs.States.{sizes, states}
-use Rattle.spd_plain.specs.Chances.{chance_of}
+use Rattle.spd_plain.specs.inner.Chances.{chance_of}
 use Rattle.spd_plain.proofs.chances.read_chances.Goals as goal
 
 pub loop-place-preserved : goal.loop-place-preserved

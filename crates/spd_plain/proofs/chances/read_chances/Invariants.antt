@@ -1,6 +1,6 @@
 use Rattle.std.proofs.Common.{◌≡◌, ℕ, ◌<◌, [], drop, length, pos, slice_index_or}
 use Rattle.spd_model.specs.States.{sizes, states}
-use Rattle.spd_plain.specs.Chances.{chance_of}
+use Rattle.spd_plain.specs.inner.Chances.{chance_of}
 use Rattle.spd_plain.proofs.chances.read_chances.Given as goal
 
 abbrev pub invariant-loop-place : goal.invariant-loop-place

@@ -1,7 +1,7 @@
 use Rattle.std.proofs.Common.{List, ℤ, sym, subst}
 use Rattle.spd_model.specs.Lawful.{IsLawful}
 use Rattle.spd_plain.specs.declared.chances.Chances.TheVariants.{Kept}
-use Rattle.spd_plain.specs.Chances.{IsKept}
+use Rattle.spd_plain.specs.inner.Chances.{IsKept}
 use Rattle.spd_plain.proofs.Steps.{on_both, kept_tells}
 use Rattle.spd_plain.proofs.chances.tell_chances.Goals as goal
 

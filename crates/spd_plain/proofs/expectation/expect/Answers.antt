@@ -9,9 +9,10 @@ use Rattle.spd_model.specs.Backup.{Rounding}
 use Rattle.spd_model.specs.Turns.{value_limit}
 use Rattle.spd_plain.specs.declared.space.Axis.{Axis}
 use Rattle.spd_plain.specs.declared.outlook.Outlook.{Outlook}
-use Rattle.spd_plain.specs.Space.{axis_of, axes_of, IsAxis, state_limit}
-use Rattle.spd_plain.specs.Chances.{TellsChances}
-use Rattle.spd_plain.specs.Expectations.{weighted}
+use Rattle.spd_plain.specs.Space.{state_limit}
+use Rattle.spd_plain.specs.inner.Axes.{axis_of, axes_of, IsAxis}
+use Rattle.spd_plain.specs.inner.Chances.{TellsChances}
+use Rattle.spd_plain.specs.inner.Expectations.{weighted}
 use Rattle.spd_plain.proofs.Known.{length-below, var_is, is_axis, known_at}
 use Rattle.spd_plain.proofs.Steps.{Expects, IsReady, is_ready, expects_start, expects_more, expects_one, expects_all}
 use Rattle.spd_plain.proofs.expectation.expect.Goals as goal

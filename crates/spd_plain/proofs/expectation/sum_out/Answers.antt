@@ -7,7 +7,7 @@ use mir.Syntax.{w128}
 use Rattle.spd_scaled.specs.Scaled.{IsWithin}
 use Rattle.spd_model.specs.Chances.{one}
 use Rattle.spd_model.specs.Turns.{value_limit}
-use Rattle.spd_plain.specs.Expectations.{rounding_of, weighted}
+use Rattle.spd_plain.specs.inner.Expectations.{rounding_of, weighted}
 use Rattle.spd_plain.proofs.Weights.{weighted_same}
 use Rattle.spd_plain.proofs.expectation.sum_out.Goals as goal
 

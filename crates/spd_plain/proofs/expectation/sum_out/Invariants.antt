@@ -2,7 +2,7 @@ use Rattle.std.proofs.Common.{◌≡◌, ℕ, ◌<◌, ◌≤◌, ◌*◌, All, 
 use Rattle.spd_scaled.specs.Scaled.{IsWithin}
 use Rattle.spd_model.specs.Chances.{one}
 use Rattle.spd_model.specs.Turns.{value_limit}
-use Rattle.spd_plain.specs.Expectations.{rounding_of, weighted}
+use Rattle.spd_plain.specs.inner.Expectations.{rounding_of, weighted}
 use Rattle.spd_plain.proofs.expectation.sum_out.Given as goal
 
 abbrev pub invariant-loop-place : goal.invariant-loop-place

@@ -5,7 +5,7 @@ use Rattle.spd_scaled.specs.Scaled.{IsWithin}
 use Rattle.spd_model.specs.Numbers.{sum_below}
 use Rattle.spd_model.specs.Chances.{one}
 use Rattle.spd_model.specs.Turns.{value_limit}
-use Rattle.spd_plain.specs.Expectations.{entry}
+use Rattle.spd_plain.specs.inner.Expectations.{entry}
 use Rattle.spd_plain.proofs.Weights.{term_fits, next_sum, next_fits, part_within}
 use Rattle.spd_plain.proofs.expectation.weighted_sum.Goals as goal
 

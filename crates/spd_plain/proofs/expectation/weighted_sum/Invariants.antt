@@ -1,6 +1,6 @@
 use Rattle.std.proofs.Common.{◌≡◌, ◌*ℤ◌}
 use Rattle.spd_model.specs.Numbers.{sum_below}
-use Rattle.spd_plain.specs.Expectations.{entry}
+use Rattle.spd_plain.specs.inner.Expectations.{entry}
 use Rattle.spd_plain.proofs.expectation.weighted_sum.Given as goal
 
 abbrev pub invariant-loop-value : goal.invariant-loop-value

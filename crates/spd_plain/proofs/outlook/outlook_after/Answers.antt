@@ -5,8 +5,8 @@ use Rattle.spd_model.specs.Lawful.{IsLawful}
 use Rattle.spd_model.specs.Numbers.{numbers_below}
 use Rattle.spd_plain.specs.declared.outlook.Outlook.{Outlook}
 use Rattle.spd_plain.specs.declared.space.Axis.{Axis}
-use Rattle.spd_plain.specs.Space.{axis_of}
-use Rattle.spd_plain.specs.Outlooks.{known_of, outlook_of}
+use Rattle.spd_plain.specs.inner.Axes.{axis_of}
+use Rattle.spd_plain.specs.inner.Outlooks.{known_of, outlook_of}
 use Rattle.spd_plain.proofs.Known.{length-below, var_is, is_axis, reach_read}
 use Rattle.spd_plain.proofs.Tables.{map_below_more}
 use Rattle.spd_plain.proofs.outlook.outlook_after.Goals as goal

@@ -1,5 +1,5 @@
 use Rattle.std.proofs.Common.{◌≡◌, map, take}
-use Rattle.spd_plain.specs.Outlooks.{outlook_of}
+use Rattle.spd_plain.specs.inner.Outlooks.{outlook_of}
 use Rattle.spd_plain.proofs.outlook.outlooks_at.Given as goal
 
 abbrev pub invariant-loop-number : goal.invariant-loop-number

@@ -1,5 +1,5 @@
 use Rattle.std.proofs.Common.{◌≡◌, map, take}
-use Rattle.spd_plain.specs.Outlooks.{outlooks_at}
+use Rattle.spd_plain.specs.inner.Outlooks.{outlooks_at}
 use Rattle.spd_plain.proofs.outlook.tabulate.Given as goal
 
 abbrev pub invariant-loop-s : goal.invariant-loop-s

@@ -7,7 +7,7 @@ use Rattle.std.proofs.lemmas.List.Elements.{All-get_or}
 use Rattle.std.proofs.lemmas.Map.Views.{All-insert_key}
 use Rattle.std.proofs.lemmas.Result.{IfOk-weaker}
 use Rattle.spd_model.specs.Ranges.{in_order}
-use Rattle.spd_plain.specs.Bounds.{range_of, bounds_cmp, IsSmall}
+use Rattle.spd_plain.specs.inner.Bounds.{range_of, bounds_cmp, IsSmall}
 use Rattle.spd_plain.proofs.RangeOrder.{map-insert_key, in_order_more}
 use Rattle.spd_plain.proofs.ranges.distinct_ranges.Goals as goal
 

@@ -1,6 +1,6 @@
 use Rattle.std.proofs.Common.{◌≡◌, All, map, take}
 use Rattle.spd_model.specs.Ranges.{in_order}
-use Rattle.spd_plain.specs.Bounds.{range_of, IsSmall}
+use Rattle.spd_plain.specs.inner.Bounds.{range_of, IsSmall}
 use Rattle.spd_plain.proofs.ranges.distinct_ranges.Given as goal
 
 abbrev pub invariant-loop-range : goal.invariant-loop-range

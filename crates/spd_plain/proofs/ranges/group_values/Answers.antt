@@ -4,7 +4,7 @@ use Rattle.std.proofs.lemmas.Int.{ints, clamps, to_z-of_z}
 use Rattle.std.proofs.lemmas.List.Elements.{All-get_or}
 use mir.Syntax.{w128}
 use Rattle.spd_plain.specs.declared.ranges.Bounds.{Bounds}
-use Rattle.spd_plain.specs.Bounds.{IsSmall}
+use Rattle.spd_plain.specs.inner.Bounds.{IsSmall}
 use Rattle.spd_plain.proofs.GroupSweep.{swept_joins, swept_begins, swept_ends, swept_init, begun_below}
 use Rattle.spd_plain.proofs.ranges.group_values.Goals as goal
 use Rattle.spd_plain.proofs.ranges.group_values.Goals.{then-high-group, else-high-group+in_ok-resize}

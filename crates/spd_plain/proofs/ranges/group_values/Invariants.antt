@@ -1,6 +1,6 @@
 use Rattle.std.proofs.Common.{◌≡◌, ◌≤◌, ◌-◌, ◌++◌, map, drop, length}
 use Rattle.spd_model.specs.Ranges.{groups_of, value_in}
-use Rattle.spd_plain.specs.Bounds.{range_of, IsSmall}
+use Rattle.spd_plain.specs.inner.Bounds.{range_of, IsSmall}
 use Rattle.spd_plain.proofs.GroupSweep.{sweep}
 use Rattle.spd_plain.proofs.ranges.group_values.Given as goal
 

@@ -4,7 +4,7 @@ use Rattle.std.proofs.lemmas.List.{take_all}
 use mir.Syntax.{w128}
 use Rattle.spd_model.specs.Ranges.{in_order, groups_of, value_in}
 use Rattle.spd_plain.specs.declared.ranges.Bounds.{Bounds}
-use Rattle.spd_plain.specs.Bounds.{range_of}
+use Rattle.spd_plain.specs.inner.Bounds.{range_of}
 use Rattle.spd_plain.proofs.LookUp.{search_finds, found_same, value_read, values_more}
 use Rattle.spd_plain.proofs.ranges.merge_ranges.Goals as goal
 

@@ -1,7 +1,7 @@
 use Rattle.std.proofs.Common.{◌≡◌, ◌∙◌, suc, max, map, fold, take, take_all, if◌then◌else◌, ap, sym, add-one}
 use Rattle.spd_model.specs.Trees.{read_tree}
 use Rattle.spd_model.proofs.CallerLemmas.Trees.{read_tree-Branch}
-use Rattle.spd_plain.specs.Reach.{latest}
+use Rattle.spd_plain.specs.inner.Reach.{latest}
 use Rattle.spd_plain.proofs.reach.+latest_in.Goals as goal
 use Rattle.spd_plain.proofs.reach.+latest_in.Goals.{then-primed, else-primed}
 

@@ -1,6 +1,6 @@
 use Rattle.std.proofs.Common.{◌≡◌, max, map, fold, take}
 use Rattle.spd_model.specs.Trees.{read_tree}
-use Rattle.spd_plain.specs.Reach.{latest}
+use Rattle.spd_plain.specs.inner.Reach.{latest}
 use Rattle.spd_plain.proofs.reach.+latest_in.Given as goal
 
 abbrev pub invariant-loop-kid : goal.invariant-loop-kid

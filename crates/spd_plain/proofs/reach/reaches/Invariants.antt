@@ -1,5 +1,5 @@
 use Rattle.std.proofs.Common.{◌≡◌, map, take}
-use Rattle.spd_plain.specs.Reach.{reaches_after}
+use Rattle.spd_plain.specs.inner.Reach.{reaches_after}
 use Rattle.spd_plain.proofs.reach.reaches.Given as goal
 
 abbrev pub invariant-loop-action : goal.invariant-loop-action

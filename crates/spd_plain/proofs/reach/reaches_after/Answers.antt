@@ -8,7 +8,7 @@ use Rattle.spd_model.specs.Lawful.{IsLawful, IsAction}
 use Rattle.spd_model.specs.Trees.{read_tree, read_in}
 use Rattle.spd_plain.specs.declared.reach.Reach.{Reach}
 use Rattle.spd_plain.specs.declared.reach.Reach.TheVariants.{Own, Later}
-use Rattle.spd_plain.specs.Reach.{latest, reach_at}
+use Rattle.spd_plain.specs.inner.Reach.{latest, reach_at}
 use Rattle.spd_plain.proofs.Tables.{map_below_more}
 use Rattle.spd_plain.proofs.reach.reaches_after.Goals as goal
 use Rattle.spd_plain.proofs.reach.reaches_after.Goals.{then-latest_in-var, else-latest_in-var}

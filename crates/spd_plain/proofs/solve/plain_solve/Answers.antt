@@ -3,7 +3,7 @@ use Rattle.std.proofs.lemmas.Int.{to_z-of_z}
 use mir.Syntax.{w128}
 use Rattle.spd_plain.specs.Plain.{plain_of}
 use Rattle.spd_model.specs.Lawful.{IsLawful}
-use Rattle.spd_plain.specs.Faults.{sum_record, reward_record}
+use Rattle.spd_plain.specs.inner.Faults.{sum_record, reward_record}
 use Rattle.spd_model.proofs.CallerLemmas.Validity.{is_valid, wrong_sum-invalid, wide_reward-invalid, wrong_sum-placed, wide_reward-placed}
 use Rattle.spd_plain.proofs.Shapes.{plain-shaped}
 use Rattle.spd_plain.proofs.Told.{told_is}

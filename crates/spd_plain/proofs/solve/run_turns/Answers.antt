@@ -8,10 +8,10 @@ use Rattle.spd_model.specs.States.{sizes, at}
 use Rattle.spd_model.specs.Ranges.{merged}
 use Rattle.spd_model.specs.Stops.{Stop, first_from}
 use Rattle.spd_model.specs.Turns.{turn, next_of, ranges_of, stop_of, residual_of, stops_at, rule_at}
-use Rattle.spd_plain.specs.Bounds.{range_of}
+use Rattle.spd_plain.specs.inner.Bounds.{range_of}
 use Rattle.spd_plain.proofs.SweepLaws.{all_small}
 use Rattle.spd_model.proofs.CallerLemmas.Finds.{first_here}
-use Rattle.spd_plain.specs.Sweeps.{AreLimited}
+use Rattle.spd_plain.specs.inner.Sweeps.{AreLimited}
 use Rattle.spd_plain.proofs.Runs.{can_sweep, residual_small, goes_on, first_at_limit, stop_here}
 use Rattle.spd_plain.proofs.solve.run_turns.Goals as goal
 use Rattle.spd_plain.proofs.solve.run_turns.Goals.{then-is_done-2, else-is_done-2}

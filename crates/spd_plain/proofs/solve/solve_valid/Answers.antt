@@ -8,7 +8,7 @@ use Rattle.spd_model.specs.Backup.{policy_of}
 use Rattle.spd_model.specs.Turns.{turn, residual_of, place_of, error_of, stop_of}
 use Rattle.spd_model.specs.Stops.{Stop}
 use Rattle.spd_plain.specs.declared.solve.Plain.{Plain}
-use Rattle.spd_plain.specs.Sweeps.{stop_record}
+use Rattle.spd_plain.specs.inner.Sweeps.{stop_record}
 use Rattle.spd_model.specs.Lawful.{IsLawful}
 use Rattle.spd_model.proofs.CallerLemmas.Bounded.{residual_within, IsBounded-at}
 use Rattle.spd_plain.proofs.solve.solve_valid.Goals as goal

@@ -6,7 +6,7 @@ use Rattle.spd_model.specs.States.{sizes, state_count}
 use Rattle.spd_model.specs.Chances.{sizes_after}
 use Rattle.spd_model.proofs.CallerLemmas.StateOrder.{length-sizes, sizes_some}
 use Rattle.spd_plain.specs.declared.space.Axis.{Axis}
-use Rattle.spd_plain.specs.Space.{axis_of}
+use Rattle.spd_plain.specs.inner.Axes.{axis_of}
 use Rattle.spd_plain.proofs.Products.{size_at}
 use Rattle.spd_plain.proofs.Tables.{state_count-from, map_below_more}
 use Rattle.spd_plain.proofs.space.all_axes.Goals as goal

@@ -7,8 +7,8 @@ use Rattle.spd_model.specs.States.{sizes, states, state_count, at}
 use Rattle.spd_model.proofs.CallerLemmas.Gaps.{has_gap, not_nowhere}
 use Rattle.spd_model.proofs.CallerLemmas.StateOrder.{length-states, sizes_some, state_count_some}
 use Rattle.spd_plain.specs.declared.ranges.Bounds.{Bounds}
-use Rattle.spd_plain.specs.Bounds.{range_of}
-use Rattle.spd_plain.specs.Sweeps.{AreLimited}
+use Rattle.spd_plain.specs.inner.Bounds.{range_of}
+use Rattle.spd_plain.specs.inner.Sweeps.{AreLimited}
 use Rattle.spd_plain.proofs.SweepLaws.{length-ranges, has_gap_is, state_of_residual_is}
 use Rattle.spd_plain.proofs.sweep.first_place_of.Goals as goal
 

@@ -7,8 +7,8 @@ use Rattle.spd_model.specs.Turns.{place_of}
 use Rattle.spd_model.specs.States.{sizes, states, at}
 use Rattle.spd_model.proofs.CallerLemmas.StateOrder.{length-states}
 use Rattle.spd_plain.specs.declared.ranges.Bounds.{Bounds}
-use Rattle.spd_plain.specs.Bounds.{range_of}
-use Rattle.spd_plain.specs.Sweeps.{AreLimited, action_on}
+use Rattle.spd_plain.specs.inner.Bounds.{range_of}
+use Rattle.spd_plain.specs.inner.Sweeps.{AreLimited, action_on}
 use Rattle.spd_plain.proofs.SweepLaws.{length-ranges, above_here, placed, place_is}
 use Rattle.spd_plain.proofs.Rows.{length-rows, row_read}
 use Rattle.spd_plain.proofs.Tables.{state_is, state_read}

@@ -7,8 +7,8 @@ use Rattle.spd_model.specs.States.{sizes, states, state_count, at}
 use Rattle.spd_model.proofs.CallerLemmas.Gaps.{gap_at}
 use Rattle.spd_model.proofs.CallerLemmas.Greatest.{greatest_more}
 use Rattle.spd_model.proofs.CallerLemmas.StateOrder.{length-states, at-get_or}
-use Rattle.spd_plain.specs.Bounds.{range_of}
-use Rattle.spd_plain.specs.Sweeps.{AreLimited}
+use Rattle.spd_plain.specs.inner.Bounds.{range_of}
+use Rattle.spd_plain.specs.inner.Sweeps.{AreLimited}
 use Rattle.spd_plain.proofs.Rows.{row_read, length-rows, table_more}
 use Rattle.spd_plain.proofs.SweepLaws.{range_at}
 use Rattle.spd_plain.proofs.Tables.{state_is, state_read}

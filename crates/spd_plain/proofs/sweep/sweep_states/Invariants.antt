@@ -2,8 +2,8 @@ use Rattle.std.proofs.Common.{◌≡◌, All, map, fold, take, pos}
 use Rattle.std.specs.Int.{int_max}
 use Rattle.spd_model.specs.States.{sizes, states, at}
 use Rattle.spd_model.proofs.CallerLemmas.Gaps.{gap_at}
-use Rattle.spd_plain.specs.Bounds.{range_of}
-use Rattle.spd_plain.specs.Sweeps.{AreLimited}
+use Rattle.spd_plain.specs.inner.Bounds.{range_of}
+use Rattle.spd_plain.specs.inner.Sweeps.{AreLimited}
 use Rattle.spd_plain.proofs.SweepLaws.{range_at}
 use Rattle.spd_plain.proofs.sweep.sweep_states.Given as goal
 

@@ -5,7 +5,7 @@ use Rattle.std.proofs.lemmas.List.FromFn.{length-enumerate_from}
 use Rattle.spd_model.specs.declared.process.Action.{Action}
 use Rattle.spd_model.specs.Process.{Process}
 use Rattle.spd_model.specs.Chances.{Reward, reward_limit}
-use Rattle.spd_plain.specs.Faults.{reward_record}
+use Rattle.spd_plain.specs.inner.Faults.{reward_record}
 use Rattle.spd_model.proofs.CallerLemmas.Finds.{find_flat_some, find_flat_more, find_flat_none}
 use Rattle.spd_model.proofs.CallerLemmas.Validity.{rewards_after}
 use Rattle.spd_plain.proofs.Numbered.{numbered, is_some-option_map}

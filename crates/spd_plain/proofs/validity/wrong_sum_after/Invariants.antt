@@ -3,7 +3,7 @@ use Rattle.std.specs.Ordering.{int_eq}
 use Rattle.spd_model.specs.Numbers.{numbers_below}
 use Rattle.spd_model.specs.States.{sizes, states}
 use Rattle.spd_model.specs.Chances.{Sum, one}
-use Rattle.spd_plain.specs.Faults.{sums_at}
+use Rattle.spd_plain.specs.inner.Faults.{sums_at}
 use Rattle.spd_plain.proofs.validity.wrong_sum_after.Given as goal
 
 abbrev pub invariant-loop-var : goal.invariant-loop-var

@@ -2,7 +2,7 @@ use Rattle.std.proofs.Common.{◌≡◌, not, flat_map, take, find, None}
 use Rattle.std.specs.Ordering.{int_eq}
 use Rattle.spd_model.specs.States.{sizes, states}
 use Rattle.spd_model.specs.Chances.{Sum, one}
-use Rattle.spd_plain.specs.Faults.{sums_at}
+use Rattle.spd_plain.specs.inner.Faults.{sums_at}
 use Rattle.spd_plain.proofs.validity.wrong_sum_of_var.Given as goal
 
 abbrev pub invariant-loop-s : goal.invariant-loop-s

@@ -15,8 +15,8 @@ use Rattle.spd_plain.specs.declared.space.Space.{Space}
 use Rattle.spd_plain.specs.declared.sweep.Sweep.{Sweep}
 use Rattle.spd_plain.specs.declared.sweep.ResidualPlace.{ResidualPlace}
 use Rattle.spd_plain.specs.declared.solve.Stop.{Stop as Stopped}
-use Rattle.spd_plain.specs.Bounds.{range_of}
-use Rattle.spd_plain.specs.Space.{IsSpace}
+use Rattle.spd_plain.specs.inner.Bounds.{range_of}
+use Rattle.spd_plain.specs.inner.Axes.{IsSpace}
 
 -- what a sweep takes: a valid model, its states, and one bounded value for each of them
 pub record CanSweep (m : Process) (space : Space) (values : List ℤ) : Type 0 where

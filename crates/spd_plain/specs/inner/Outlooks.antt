@@ -9,8 +9,8 @@ use Rattle.spd_plain.specs.declared.chances.Chances.{Chances}
 use Rattle.spd_plain.specs.declared.chances.Chances.TheVariants.{Kept, Read}
 use Rattle.spd_plain.specs.declared.outlook.Outlook.{Outlook}
 use Rattle.spd_plain.specs.declared.reach.Reach.TheVariants.{Own, Later}
-use Rattle.spd_plain.specs.Chances.{values_of}
-use Rattle.spd_plain.specs.Reach.{reach_at}
+use Rattle.spd_plain.specs.inner.Chances.{values_of}
+use Rattle.spd_plain.specs.inner.Reach.{reach_at}
 
 -- what is kept of the probabilities of the variable i after action a at s
 abbrev pub known_of : Process → Action → List ℕ → ℕ → Chances
