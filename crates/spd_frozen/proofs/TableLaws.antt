@@ -5,6 +5,7 @@ use Rattle.std.specs.List.{list_all}
 use Rattle.std.proofs.lemmas.List.{map-append, get_or-take, get_or-drop, length-take, length-drop}
 use Rattle.std.proofs.Math.Nat.{mul-le-mul_right}
 use Rattle.std.proofs.lemmas.List.Elements.{All-head, All-tail, All-cons, All-nil}
+use Rattle.spd_model.proofs.CallerLemmas.Diagrams.{map-below, reduced-agree}
 use Rattle.spd_model.proofs.CallerLemmas.StateOrder.{rank_below}
 use Rattle.spd_model.specs.Numbers.{numbers_below}
 use Rattle.spd_model.specs.Reduced.{Diagram, subtrees_of, Node, is_equal, choice_of, reduced_from, nodes_after, nodes_after_all, node_number}
@@ -19,22 +20,6 @@ use Rattle.std.proofs.lemmas.Bool.{and_parts}
 use Rattle.spd_frozen.proofs.Places.{D, is_equal-refl, is_equal-true, number-is, number-below, number-append}
 use Rattle.spd_frozen.proofs.Completion.{GoesOn, nodes_after-is, nodes_after_all-is, nodes_after_all-append, left_out-nodes, kept-nodes}
 use Rattle.spd_frozen.proofs.Reading.{nothing, kid_at}
-
--- functions that agree below n have equal lists of values
-pub map-below : {X : Type 0} (f g : ℕ → X) (n : ℕ) → ((v : ℕ) → v < n → f v ≡ g v) → map f (numbers_below n) ≡ map g (numbers_below n)
-map-below f g zero h = refl
-map-below f g (suc n) h =
-    let before = map-below f g n (λ v q. h v (omega arith)) in
-    let last : f n ≡ g n = h n (omega arith) in
-    map-append f (numbers_below n) (n ∷ []) ∙ ap (λ l. l ++ f n ∷ []) before ∙ ap (λ x. map g (numbers_below n) ++ x ∷ []) last ∙ sym (map-append g (numbers_below n) (n ∷ []))
-
--- functions that agree at all states have one reduced diagram
-pub reduced-agree : {X : Type 0} (same : X → X → Bool) (var : ℕ) (sizes : List ℕ) (f g : List ℕ → X) → ((s : List ℕ) → IsState sizes s → f s ≡ g s)
-    → reduced_from same var sizes f ≡ reduced_from same var sizes g
-reduced-agree same var [] f g h = ap Diagram.leaf (h [] tt)
-reduced-agree same var (size ∷ sizes) f g h =
-    ap (choice_of same var) (map-below (λ v. reduced_from same (suc var) sizes (λ s. f (v ∷ s))) (λ v. reduced_from same (suc var) sizes (λ s. g (v ∷ s))) size
-    (λ v q. reduced-agree same (suc var) sizes (λ s. f (v ∷ s)) (λ s. g (v ∷ s)) (λ s k. h (v ∷ s) (q, k))))
 
 -- a part of a table is the table of what follows a value
 pub part-is : (var size : ℕ) (sizes : List ℕ) (leaves : List Leaf) (v block : ℕ) → block ≡ state_count sizes

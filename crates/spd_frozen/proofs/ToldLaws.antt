@@ -13,7 +13,7 @@ use Rattle.spd_nodes.specs.declared.leaf.Leaf.{Leaf}
 use Rattle.spd_nodes.specs.declared.leaf.Leaf.TheVariants.{Num, Act}
 use Rattle.spd_frozen.specs.Frozen.{frozen_of, entry_at}
 use Rattle.spd_frozen.specs.Told.{with_leaf, number_of, action_of}
-use Rattle.spd_frozen.proofs.TableLaws.{reduced-agree}
+use Rattle.spd_model.proofs.CallerLemmas.Diagrams.{reduced-agree}
 
 module _ {X Y : Type 0} (change : X → Y) where
   -- a diagram with other leaves

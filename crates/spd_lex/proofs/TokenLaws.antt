@@ -1,5 +1,5 @@
 -- How tokens grow from the right.
-use Rattle.std.proofs.Common.{◌≡◌, ℕ, suc, ◌+◌, ◌-◌, ◌≤◌, ◌<◌, Bool, true, false, cond, List, [], ◌∷◌, ◌++◌, length, get_or, take, drop, Option, Some, None, refl, sym, ap, ◌∙◌, arith, append_assoc}
+use Rattle.std.proofs.Common.{◌≡◌, ℕ, suc, ◌+◌, ◌-◌, ◌≤◌, ◌<◌, Bool, true, false, cond, List, [], ◌∷◌, ◌++◌, length, get_or, take, drop, Option, Some, None, refl, sym, ap, ◌∙◌, arith, append_assoc, eq-eqb}
 use Rattle.std.specs.Prelude.{◌==◌, ◌&&◌, is_some}
 use Rattle.std.proofs.lemmas.Grind.{common_steps}
 use Rattle.spd_lex.specs.declared.token.Token.{Token}
@@ -13,21 +13,18 @@ unfolding with_word
 with_word-apart from at [] apart = refl
 with_word-apart from at (t ∷ ts) apart = ap (λ (b : Bool). extended b from at t ts) apart
 
-same : (n : ℕ) → (n == n) ≡ true
-same n = grind arith
-
 pub with_word-extended : (from at : ℕ) (ts : List Token) → with_word from at (with_word at (at + 1) ts) ≡ with_word from (at + 1) ts
 unfolding with_word
-with_word-extended from at [] = ap (λ (b : Bool). extended b from at (record { kind = Word; from = at; to = at + 1 }) []) (same at)
+with_word-extended from at [] = ap (λ (b : Bool). extended b from at (record { kind = Word; from = at; to = at + 1 }) []) (eq-eqb at at refl)
 with_word-extended from at (t ∷ ts) = by_case (is_word t.kind && t.from == at + 1) refl
   where
     by_case : (b : Bool) → (is_word t.kind && t.from == at + 1) ≡ b → with_word from at (extended b at (at + 1) t ts) ≡ extended b from (at + 1) t ts
     by_case true is = word (is_word t.kind) refl
       where
         word : (w : Bool) → is_word t.kind ≡ w → extended (is_word t.kind && at == at) from at (record t { from = at }) ts ≡ record t { from = from } ∷ ts
-        word true w = ap (λ (b : Bool). extended (b && at == at) from at (record t { from = at }) ts) w ∙ ap (λ (b : Bool). extended b from at (record t { from = at }) ts) (same at)
+        word true w = ap (λ (b : Bool). extended (b && at == at) from at (record t { from = at }) ts) w ∙ ap (λ (b : Bool). extended b from at (record t { from = at }) ts) (eq-eqb at at refl)
         word false w = let no : (is_word t.kind && t.from == at + 1) ≡ false = ap (λ (b : Bool). b && t.from == at + 1) w in absurd cc
-    by_case false is = ap (λ (b : Bool). extended b from at (record { kind = Word; from = at; to = at + 1 }) (t ∷ ts)) (same at)
+    by_case false is = ap (λ (b : Bool). extended b from at (record { kind = Word; from = at; to = at + 1 }) (t ∷ ts)) (eq-eqb at at refl)
 
 -- ---- tokens lie apart
 

@@ -14,7 +14,7 @@ use std::alloc::{AllocError, AllocFailed, Global};
 pub enum Lex {
     /// Outside comments a byte other than tab, LF, CR and 0x20 to 0x7E stands at this place first.
     BadByte { at: usize },
-    /// There was no memory for the tokens, or the file has 2^32 bytes or more.
+    /// There was no memory for the tokens, or the file has 2^32 - 1 bytes or more.
     Memory,
 }
 
@@ -128,7 +128,7 @@ fn all_tokens(bytes: &[u8], tokens: Vec<Token>) -> Result<Vec<Token>, Lex>
 /// The tokens of a file, from left to right, in one pass. A comment goes from `//` to the next LF or to
 /// the end of the file, holds any bytes, and counts as blanks. `BadByte` comes exactly where a byte may
 /// not stand outside comments, at the first such byte; `Memory` comes where there was no memory for the
-/// tokens, and for a file of 2^32 bytes or more.
+/// tokens, and for a file of 2^32 - 1 bytes or more.
 pub fn tokens(alloc: Global, bytes: &[u8]) -> Result<Vec<Token>, Lex>
     ensures clean { IfOk result (λ v. bad_byte bytes.now ≡ None) }
     ensures found { IfOk result (λ v. v.items ≡ tokens_of bytes.now) }

@@ -11,3 +11,4 @@ pub mod Validity
 pub mod Chances
 pub mod Bounded
 pub mod Gaps
+pub mod Diagrams

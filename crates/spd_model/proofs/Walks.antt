@@ -4,6 +4,7 @@ use Rattle.std.proofs.lemmas.List.{get_or-map}
 use Rattle.std.proofs.lemmas.List.Elements.{All-head, All-tail}
 use Rattle.std.proofs.Math.ListN.{length-map}
 use Rattle.std.proofs.Math.Nat.{mul-le-mul_right}
+use Rattle.spd_model.proofs.CallerLemmas.Lists.{le_fold_max}
 use Rattle.spd_model.specs.declared.tree.Tree.{Tree, Leaf, Named, Branch, Branch'}
 use Rattle.spd_model.specs.Process.{Process}
 use Rattle.spd_model.specs.States.{sizes, IsState}
@@ -27,10 +28,6 @@ name_rank (Branch' var primed shape kids) = 0
 -- how far the walk from a tree can go: names lead to earlier names, branches to trees that nest less
 unfoldable pub distance : Process → Tree → ℕ
 distance m tree = nesting_of m tree * (length m.dds + 1) + name_rank tree
-
-le_fold_max : (a : ℕ) (xs : List ℕ) → a ≤ fold max a xs
-le_fold_max a [] = omega arith
-le_fold_max a (x ∷ xs) = let more = le_fold_max (max a x) xs in omega arith
 
 -- the greatest of a list is at least each of its entries
 pub fold_max-entry : (a : ℕ) (xs : List ℕ) (k : ℕ) → k < length xs → get_or xs k 0 ≤ fold max a xs

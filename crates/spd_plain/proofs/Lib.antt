@@ -15,7 +15,7 @@ pub mod Runs
 pub mod Shapes
 pub mod Told
 pub mod OneState
-mod Limits
+mod LimitRows
 pub mod BitTests
 pub mod Products
 pub mod ReturnFits

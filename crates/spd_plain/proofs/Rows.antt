@@ -10,22 +10,18 @@ use Rattle.spd_model.specs.Numbers.{greatest, first_place}
 use Rattle.spd_model.specs.States.{sizes, states, state_count}
 use Rattle.spd_model.specs.Chances.{reward_of}
 use Rattle.spd_model.proofs.CallerLemmas.StateOrder.{get_or-table_of, length-table_of}
-use Rattle.spd_model.proofs.CallerLemmas.Greatest.{fold-push}
+use Rattle.spd_model.proofs.CallerLemmas.Greatest.{greatest-push}
 use Rattle.spd_plain.specs.declared.outlook.Outlook.{Outlook}
 use Rattle.spd_plain.specs.inner.Outlooks.{outlook_of, outlooks_at, outlooks_of}
 use Rattle.spd_plain.specs.inner.Sweeps.{bound_on, action_on}
 
 -- the greatest of one entry more
-greatest_push : (xs : List ℤ) (y : ℤ) → 0 < length xs → greatest (xs ++ y ∷ []) ≡ int_max (greatest xs) y
-greatest_push [] y some = absurd (omega arith)
-greatest_push (x ∷ xs) y some = fold-push x xs y
-
 pub greatest_one_more : {X : Type 0} (f : X → ℤ) (xs : List X) (k : ℕ) (x : X) (best here most : ℤ) → 0 < k → k < length xs → x ≡ get_or xs k x → best ≡ greatest (map f (take k xs)) → here ≡ f x
     → most ≡ int_max best here → most ≡ greatest (map f (take (k + 1) xs))
 greatest_one_more f xs k x best here most some near is so_far here_is most_is =
     most_is ∙ (λ i. int_max (so_far i) ((here_is ∙ ap f is) i))
     ∙ sym (ap (λ l. greatest (map f l)) (take_more xs k x near) ∙ ap greatest (map_push f (take k xs) (get_or xs k x))
-    ∙ greatest_push (map f (take k xs)) (f (get_or xs k x)) (omega (arith, length-map (take k xs) f, length-take_near xs k near)))
+    ∙ greatest-push (map f (take k xs)) (f (get_or xs k x)) (omega (arith, length-map (take k xs) f, length-take_near xs k near)))
   where
     length-take_near : {X : Type 0} (xs : List X) (k : ℕ) → k < length xs → length (take k xs) ≡ k
     length-take_near xs k near = length-take k xs ∙ omega arith

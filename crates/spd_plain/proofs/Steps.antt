@@ -4,6 +4,7 @@ use Rattle.std.specs.Result.{OnOk}
 use Rattle.std.proofs.Math.Nat.{div-add-mod', mod-lt}
 use Rattle.std.proofs.lemmas.List.{drop_all}
 use Rattle.spd_scaled.specs.Scaled.{IsWithin}
+use Rattle.spd_model.proofs.CallerLemmas.StateOrder.{quotient_below}
 use Rattle.spd_model.specs.declared.process.Action.{Action}
 use Rattle.spd_model.specs.Process.{Process}
 use Rattle.spd_model.specs.Lawful.{IsLawful}
@@ -25,9 +26,6 @@ use Rattle.spd_plain.proofs.Weights.{entry_below}
 pub on_both : {T E P Q R : Type 0} (r : Result T E) → (P → Q → R) → OnOk r P → OnOk r Q → OnOk r R
 on_both (Ok x) f p q = f p q
 on_both (Err e) f p q = tt
-
-quotient_below : (a b k : ℕ) → k < a * b → k / b < a
-quotient_below a b k h = grind (arith, div-add-mod' k b)
 
 module _ (m : Process) (a : Action) (s : List ℕ) (axis : Axis) (is : IsAxis m axis) where
   -- what is told of the value v, where the variables after it are in their k-th state

@@ -3,6 +3,7 @@ use Rattle.std.proofs.Common.{◌≡◌, inl, inr, ℕ, suc, ◌<◌, ◌≤◌,
 use Rattle.std.proofs.lemmas.Bool.{cases_lt, false≢true}
 use Rattle.std.proofs.lemmas.List.{get_or_append_left, get_or_push, get_or_past}
 use Rattle.std.proofs.lemmas.List.Elements.{All-nil, All-cons, All-append, All-weaker}
+use Rattle.spd_model.proofs.CallerLemmas.Lists.{le_fold_max}
 use Rattle.spd_model.specs.declared.tree.Tree.{Tree, Leaf, Named, Branch', Row_of-Tree, end_of-Tree, more_of-Tree}
 use Rattle.spd_model.specs.Process.{Process}
 use Rattle.spd_model.specs.Trees.{read_tree, read_kids, read_diagrams, read_in, value_of, Part, number, choice, missing, parts, parts_of}
@@ -30,10 +31,6 @@ own_number : (var : ℕ) (primed : Bool) → primed ≡ true → var < (if prime
 own_number var true h = omega arith
 own_number var false h = absurd (false≢true h)
 
-at_least : (a : ℕ) (xs : List ℕ) → a ≤ fold max a xs
-at_least a [] = omega arith
-at_least a (x ∷ xs) = let more = at_least (max a x) xs in omega arith
-
 -- the diagrams that a tree may name follow next values below their numbers
 AreSuch : List ℕ → List (List Part) → Type 0
 AreSuch numbers written = (d : ℕ) → All (FollowsBelow (get_or numbers d 0)) (get_or written d (missing ∷ []))
@@ -48,7 +45,7 @@ mutual
   tree_such numbers written such (Branch' var primed shape kids) =
       let own : ℕ = if primed then suc var else 0 in
       let most : ℕ = fold max (if primed then suc var else 0) (read_kids latest numbers kids) in
-      All-cons (FollowsBelow most) _ _ (λ e. let h = own_number var primed e in let k = at_least own (read_kids latest numbers kids) in omega arith)
+      All-cons (FollowsBelow most) _ _ (λ e. let h = own_number var primed e in let k = le_fold_max own (read_kids latest numbers kids) in omega arith)
       (kids_such numbers written such (if primed then suc var else 0) kids)
 
   kids_such : (numbers : List ℕ) (written : List (List Part)) → AreSuch numbers written → (a : ℕ) → {n : _} (kids : Row_of-Tree n)
@@ -58,7 +55,7 @@ mutual
       let own = read_tree latest numbers kid in
       let most = fold max (max a own) (read_kids latest numbers kids) in
       All-append (FollowsBelow most) (read_tree parts written kid) _
-      (all_more own most (let h = at_least (max a own) (read_kids latest numbers kids) in omega arith) (read_tree parts written kid) (tree_such numbers written such kid))
+      (all_more own most (let h = le_fold_max (max a own) (read_kids latest numbers kids) in omega arith) (read_tree parts written kid) (tree_such numbers written such kid))
       (kids_such numbers written such (max a own) kids)
 
 one_more : (numbers : List ℕ) (written : List (List Part)) (n : ℕ) (own : List Part) → length numbers ≡ length written → AreSuch numbers written

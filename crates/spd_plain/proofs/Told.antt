@@ -2,6 +2,7 @@
 use Rattle.std.proofs.Common.{◌≡◌, ◌==◌, ℕ, suc, Bool, List, [], ◌∷◌, map, All, ℤ, ap, ◌∙◌, arith}
 use Rattle.std.proofs.lemmas.List.{get_or-map}
 use Rattle.std.proofs.lemmas.List.Elements.{All-head, All-tail}
+use Rattle.spd_model.proofs.CallerLemmas.Diagrams.{reduced-agree}
 use Rattle.spd_model.specs.Process.{Process}
 use Rattle.spd_model.specs.Numbers.{numbers_below}
 use Rattle.spd_model.specs.States.{sizes, states, rank, IsState}
@@ -18,19 +19,10 @@ map_same : {X Y : Type 0} (f g : X → Y) (xs : List X) → All (λ x. f x ≡ g
 map_same f g [] h = λ i. []
 map_same f g (x ∷ xs) h = λ i. All-head (λ x. f x ≡ g x) x xs h i ∷ map_same f g xs (All-tail (λ x. f x ≡ g x) x xs h) i
 
--- functions that agree at each state have one reduced diagram
-reduced_same : {X : Type 0} (same : X → X → Bool) (var : ℕ) (sizes : List ℕ) (f g : List ℕ → X) → ((s : List ℕ) → IsState sizes s → f s ≡ g s)
-    → reduced_from same var sizes f ≡ reduced_from same var sizes g
-reduced_same same var [] f g h = ap leaf (h [] tt)
-reduced_same same var (size ∷ sizes) f g h =
-    ap (choice_of same var) (map_same _ _ (numbers_below size)
-    (All-numbers_below (λ v. reduced_from same (suc var) sizes (λ s. f (v ∷ s)) ≡ reduced_from same (suc var) sizes (λ s. g (v ∷ s))) size
-    (λ v below. reduced_same same (suc var) sizes (λ s. f (v ∷ s)) (λ s. g (v ∷ s)) (λ s state. h (v ∷ s) (below, state)))))
-
 pub told_is : (m : Process) (turns : ℕ) (span : ℤ) (p : Plain) → p ≡ plain_of m turns span → told_of m p ≡ result_of m turns span
 told_is m turns span p is =
     let policy = policy_of m (stop_value m turns span) in
     let agree = λ (s : List ℕ) (state : IsState (sizes m) s).
     get_or-map policy (states (sizes m)) (rank (sizes m) s) [] 0 (omega (arith, rank_below (sizes m) s state, length-states (sizes m))) ∙ ap policy (get_or-states (sizes m) s state) in
     ap (told_of m) is
-    ∙ (λ i. record (told_of m (plain_of m turns span)) { policy = listed (λ a b. a == b) (reduced_same (λ a b. a == b) 0 (sizes m) _ policy agree i) })
+    ∙ (λ i. record (told_of m (plain_of m turns span)) { policy = listed (λ a b. a == b) (reduced-agree (λ a b. a == b) 0 (sizes m) _ policy agree i) })

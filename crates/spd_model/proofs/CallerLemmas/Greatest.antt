@@ -46,7 +46,7 @@ first_place_is xs best place h =
     h.place_is ∙ sym (ap (λ b. unwrap_or (cond b (Some (position_or_len (int_eq best) xs)) None) 0) found)
     ∙ ap (λ x. first_place x xs) h.greatest_is
 
-greatest-push : (xs : List ℤ) (y : ℤ) → 0 < length xs → greatest (xs ++ y ∷ []) ≡ int_max (greatest xs) y
+pub greatest-push : (xs : List ℤ) (y : ℤ) → 0 < length xs → greatest (xs ++ y ∷ []) ≡ int_max (greatest xs) y
 greatest-push [] y h = absurd (omega arith)
 greatest-push (x ∷ xs) y h = fold-push x xs y
 

@@ -1,5 +1,5 @@
 -- What holds of all entries of a list: of lists that are put together, of images, and of the numbers below a bound.
-use Rattle.std.proofs.Common.{◌≡◌, ℕ, zero, suc, ◌+◌, ◌<◌, List, [], ◌∷◌, ◌++◌, length, map, flat_map, get_or, All, Contains, refl, ap, sym, ◌∙◌, subst, arith, length-append, below_more}
+use Rattle.std.proofs.Common.{◌≡◌, ℕ, zero, suc, ◌+◌, ◌<◌, List, [], ◌∷◌, ◌++◌, length, map, flat_map, get_or, All, Contains, refl, ap, sym, ◌∙◌, subst, arith, length-append, below_more, ◌≤◌, max, fold}
 use Rattle.std.specs.List.{enumerate_from}
 use Rattle.std.proofs.lemmas.List.{get_or-map, get_or_append_left, get_or_push}
 use Rattle.std.proofs.lemmas.List.Elements.{All-nil, All-cons, All-head, All-tail, All-append, All-from_get_or}
@@ -74,3 +74,7 @@ All-enumerate_back P xs h x there =
     let at : 0 + there.0 ≡ there.0 = omega arith in
     subst P (get_or-enumerate_from 0 xs there.0 (there.0, x) there.1 ∙ (λ i. (at i, there.2 i)))
     (h there.0 (there.0, x) (omega (arith, length-enumerate_from 0 xs, there.1)))
+
+pub le_fold_max : (a : ℕ) (xs : List ℕ) → a ≤ fold max a xs
+le_fold_max a [] = omega arith
+le_fold_max a (x ∷ xs) = let more = le_fold_max (max a x) xs in omega arith

@@ -97,7 +97,7 @@ some_left : (a b k : ℕ) → k < a * b → 0 < b
 some_left a zero k h = absurd (omega arith)
 some_left a (suc b) k h = omega arith
 
-quotient_below : (a b k : ℕ) → k < a * b → k / b < a
+pub quotient_below : (a b k : ℕ) → k < a * b → k / b < a
 quotient_below a b k h = grind (arith, div-add-mod' k b)
 
 pub IsState-state_at : (sizes : List ℕ) (k : ℕ) → k < state_count sizes → IsState sizes (state_at sizes k)
