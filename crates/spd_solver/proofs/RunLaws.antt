@@ -1,11 +1,10 @@
 -- What the stages of a command come to, for the command as a whole.
-use Rattle.std.proofs.Common.{◌≡◌, ℕ, ◌≤◌, List, length, ℤ, Option, Some, None, Ok, Err, IfOk, IfSome, Result, refl, sym, ap, subst, ◌∙◌, arith}
+use Rattle.std.proofs.Common.{◌≡◌, ℕ, ◌≤◌, List, length, ℤ, Option, Some, None, IfSome, refl, sym, ap, subst, ◌∙◌, arith}
 use Rattle.std.proofs.lemmas.Option.{same_Some, none-some}
 use Rattle.sha2.specs.Sha256.{sha256}
 use Rattle.spd_edge.specs.Told.{Took, TookFront}
 use Rattle.spd_edge.specs.Counts.{Rose}
 use Rattle.spd_model.specs.declared.Why.{Why}
-use Rattle.spd_model.specs.declared.Why.TheVariants as Why
 use Rattle.spd_model.specs.Process.{Process}
 use Rattle.spd_model.specs.Chances.{IsValid}
 use Rattle.spd_model.specs.Turns.{stop_of}
@@ -14,16 +13,13 @@ use Rattle.spd_frozen.specs.Told.{told}
 use Rattle.spd_model.specs.declared.options.Options.{Options}
 use Rattle.spd_solver.specs.declared.solving.Solution.{Solution}
 use Rattle.spd_solver.specs.declared.solving.Unsolved.{Unsolved}
-use Rattle.spd_solver.specs.declared.solving.Unsolved.TheVariants as Unsolved
 use Rattle.spd_solver.specs.declared.small.unread.Unread.{Unread}
-use Rattle.spd_solver.specs.declared.small.unread.Unread.TheVariants as Unread
-use Rattle.spd_solver.specs.declared.status.Status.{Status}
 use Rattle.spd_solver.specs.declared.status.Status.TheVariants.{Done, TurnLimit, WriteFault}
 use Rattle.spd_solver.specs.Command.{Command, solve}
 use Rattle.spd_solver.specs.Describes.{Describes}
 use Rattle.spd_solver.specs.Kind.{Kind, whole, kind_of}
 use Rattle.spd_solver.specs.Run.{Ends, Accepts, Completes, Seen, ReadsCalmly, IsUnwritten, Means}
-use Rattle.spd_solver.specs.Solve.{residual, IsFileOf, TellsStop, HasFewStates, RefusesProcess}
+use Rattle.spd_solver.specs.Solve.{residual, TellsStop, HasFewStates, RefusesProcess}
 use Rattle.spd_solver.specs.inner.Stages.{IsSolution, finished_status, unread_status, unsolved_status}
 use Rattle.spd_solver.proofs.SmallReadLaws.{one_process}
 

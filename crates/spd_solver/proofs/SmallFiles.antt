@@ -9,7 +9,7 @@ use Rattle.spd_model.specs.declared.process.Action.{Action}
 use Rattle.spd_solver.specs.declared.small.unread.Unread.{Unread}
 use Rattle.spd_solver.specs.declared.small.unread.Unread.TheVariants.{Refused, Memory}
 use Rattle.spd_solver.specs.SmallToken.{Token}
-use Rattle.spd_solver.specs.SmallReading.{◌>>=◌, Fails, word_at, words_step, words_at, are_distinct, action_at, begins_action, actions_step, actions_at}
+use Rattle.spd_solver.specs.inner.SmallReading.{◌>>=◌, Fails, word_at, words_step, words_at, are_distinct, action_at, begins_action, actions_step, actions_at}
 
 -- the words before and those that are still to come
 abbrev pub with_words : List (List ℕ) → List (List ℕ) × List Token → List (List ℕ) × List Token

@@ -1,5 +1,5 @@
 -- What means a process is read as it.
-use Rattle.std.proofs.Common.{◌≡◌, ℕ, zero, suc, ◌<◌, ◌≤◌, Bool, true, false, cond, eqb, ltb, ◌||◌, ◌&&◌, List, [], ◌∷◌, ◌++◌, length, map, Option, Some, None, ℤ, pos, refl, sym, ap, ◌∙◌, arith, append_assoc}
+use Rattle.std.proofs.Common.{◌≡◌, ℕ, zero, suc, ◌<◌, ◌≤◌, Bool, true, false, cond, eqb, ltb, ◌||◌, ◌&&◌, List, [], ◌∷◌, ◌++◌, length, map, Option, Some, None, refl, sym, ap, ◌∙◌, arith, append_assoc}
 use Rattle.std.specs.Prelude.{not, codes, is_some, All, IsTrue}
 use Rattle.std.specs.List.{list_all, list_any, flat_map}
 use Rattle.std.specs.Str.{bytes_eq}
@@ -16,7 +16,7 @@ use Rattle.spd_solver.specs.declared.small.trees.Role.TheVariants.{Table, Reward
 use Rattle.spd_solver.specs.SmallToken.{Token, opening, closing, word}
 use Rattle.spd_solver.specs.SmallSyntax.{Shape, ActionText, FileText, tokens_of_tree, tokens_of_action, tokens_of_file}
 use Rattle.spd_solver.specs.Small.{IsNumber, MeansTree, MeansActions, MeansFile}
-use Rattle.spd_solver.specs.SmallReading.{◌>>=◌, closing_at, word_at, keyword_at, number_of, tree_at, are_distinct, words_step, words_at, variable_of, variable_at, action_of, action_at, begins_action, actions_step, actions_at, named_actions_at, discount_of, settings_at, file_at}
+use Rattle.spd_solver.specs.inner.SmallReading.{◌>>=◌, closing_at, word_at, keyword_at, number_of, tree_at, are_distinct, words_step, words_at, variable_of, variable_at, action_of, action_at, begins_action, actions_step, actions_at, named_actions_at, discount_of, settings_at, file_at}
 use Rattle.spd_solver.proofs.SmallSteps.{same_bytes, bytes_same, opening_again, closing_again, word_again, keyword_again}
 use Rattle.spd_solver.proofs.SmallNumberLaws.{not_zero, number_again}
 use Rattle.spd_solver.proofs.SmallTreesAgain.{IsApart, apart_first, distinct_rest, tree_again}

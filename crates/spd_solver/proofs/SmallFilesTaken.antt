@@ -3,7 +3,7 @@ use Rattle.std.proofs.Common.{◌≡◌, ℕ, zero, suc, ◌<◌, ◌≤◌, Boo
 use Rattle.std.specs.Prelude.{not, codes, All, IsTrue}
 use Rattle.std.specs.List.{list_all, flat_map}
 use Rattle.std.specs.Str.{bytes_eq}
-use Rattle.std.proofs.lemmas.Bool.{ltb-true, ltb-false, eqb-true}
+use Rattle.std.proofs.lemmas.Bool.{ltb-true, ltb-false, eqb-true, not-false}
 use Rattle.std.proofs.lemmas.List.{nil_from_length}
 use Rattle.std.proofs.lemmas.Option.{same_Some}
 use Rattle.std.proofs.lemmas.List.Concat.{flat_map-cons}
@@ -18,9 +18,9 @@ use Rattle.spd_solver.specs.declared.small.trees.Role.TheVariants.{Table, Reward
 use Rattle.spd_solver.specs.SmallToken.{Token, opening, closing, word}
 use Rattle.spd_solver.specs.SmallSyntax.{Shape, ActionText, FileText, tokens_of_tree, tokens_of_action, tokens_of_file}
 use Rattle.spd_solver.specs.Small.{IsNumber, MeansTree, MeansActions, MeansFile}
-use Rattle.spd_solver.specs.SmallReading.{◌>>=◌, opening_at, closing_at, word_at, keyword_at, number_of, tree_at, are_distinct, words_step, words_at, variable_of, variable_at, action_of, action_at, begins_action, actions_step, actions_at, named_actions_at, discount_of, settings_at, file_at}
+use Rattle.spd_solver.specs.inner.SmallReading.{◌>>=◌, opening_at, closing_at, word_at, keyword_at, number_of, tree_at, are_distinct, words_step, words_at, variable_of, variable_at, action_of, action_at, begins_action, actions_step, actions_at, named_actions_at, discount_of, settings_at, file_at}
 use Rattle.std.proofs.lemmas.Bool.{or_parts}
-use Rattle.spd_solver.proofs.SmallSteps.{bind_some, guard_none, guard_some, not_false, same_bytes, opening_takes, closing_takes, word_takes, keyword_takes}
+use Rattle.spd_solver.proofs.SmallSteps.{bind_some, guard_none, guard_some, same_bytes, opening_takes, closing_takes, word_takes, keyword_takes}
 use Rattle.spd_solver.proofs.SmallNumberLaws.{number_takes}
 use Rattle.spd_solver.proofs.SmallTreesTaken.{tree_takes, distinct_pairs}
 
@@ -63,9 +63,9 @@ variable_of_takes name values var e =
       refl,
       refl,
       record {
-        named = not_false _ one.0;
-        values = AllPass-from_list_all is_value_name values (not_false _ one.1);
-        differ = distinct_pairs values (not_false _ two.1);
+        named = not-false _ one.0;
+        values = AllPass-from_list_all is_value_name values (not-false _ one.1);
+        differ = distinct_pairs values (not-false _ two.1);
         least = ltb-false _ _ three.1;
       },
     )
@@ -111,7 +111,7 @@ action_of_takes var name variable table a e =
     let made : Action = record { name = name; tables = table ∷ []; cost = [] } in
     let g = guard_none (not (is_name name) || not (bytes_eq variable var.name)) (Some made) a e in
     let two = or_parts (not (is_name name)) (not (bytes_eq variable var.name)) g.0 in
-    (cc, not_false _ two.0, same_bytes _ _ (not_false _ two.1))
+    (cc, not-false _ two.0, same_bytes _ _ (not-false _ two.1))
 
 action_takes : (var : Var) (tokens : List Token) (x : Action × List Token) → action_at var tokens ≡ Some x → TookAction var tokens x
 unfolding action_at

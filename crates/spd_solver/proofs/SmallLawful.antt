@@ -12,7 +12,7 @@ use Rattle.spd_model.specs.declared.process.Action.{Action}
 use Rattle.spd_solver.specs.declared.small.trees.Role.{Role}
 use Rattle.spd_solver.specs.declared.small.trees.Role.TheVariants.{Table, Reward}
 use Rattle.spd_solver.specs.SmallToken.{Token}
-use Rattle.spd_solver.specs.SmallReading.{◌>>=◌, opening_at, closing_at, word_at, keyword_at, tree_at, variable_at, action_of, action_at, begins_action, actions_step, actions_at, named_actions_at, settings_at, file_at, are_distinct}
+use Rattle.spd_solver.specs.inner.SmallReading.{◌>>=◌, opening_at, closing_at, word_at, keyword_at, tree_at, variable_at, action_of, action_at, begins_action, actions_step, actions_at, named_actions_at, settings_at, file_at, are_distinct}
 use Rattle.spd_solver.proofs.SmallSteps.{bind_some, guard_none, guard_some}
 use Rattle.std.proofs.lemmas.List.Elements.{All-nil, All-cons}
 use Rattle.spd_model.proofs.CallerLemmas.Lists.{All-one}

@@ -8,9 +8,9 @@ use Rattle.std.proofs.lemmas.List.{append-nil, take-append-drop, length-append, 
 use Rattle.std.proofs.Math.Seq.{drop-cons}
 use Rattle.std.proofs.lemmas.List.Folds.{list_all-append, prefix_len-append}
 use Rattle.std.proofs.lemmas.List.Quantifiers.{position-Some}
-use Rattle.std.proofs.lemmas.Bool.{ltb-false, leb-false, eqb-true, le-ltb, lt-ltb, lt-leb}
+use Rattle.std.proofs.lemmas.Bool.{ltb-false, leb-false, eqb-true, le-ltb, lt-ltb, lt-leb, and_parts}
 use Rattle.spd_solver.specs.Small.{IsNumber, with_point}
-use Rattle.spd_solver.specs.SmallReading.{◌>>=◌, parts_step, parts_of, digits_of, scaled, number_of}
+use Rattle.spd_solver.specs.inner.SmallReading.{◌>>=◌, parts_step, parts_of, digits_of, scaled, number_of}
 use Rattle.std.proofs.lemmas.Bool.{or_parts}
 use Rattle.spd_solver.proofs.SmallSteps.{bind_some, guard_none, guard_some}
 
@@ -87,14 +87,10 @@ no_point byte = not (is_point byte)
 digit_no_point : (byte : ℕ) → is_ascii_digit byte ≡ true → no_point byte ≡ true
 digit_no_point byte digit = grind arith
 
-pub both : (a b : Bool) → (a && b) ≡ true → (a ≡ true) × (b ≡ true)
-both true b e = (refl, e)
-both false b e = absurd cc
-
 digits_pass : (text : List ℕ) → list_all is_ascii_digit text ≡ true → prefix_len no_point text ≡ length text
 digits_pass [] all = refl
 digits_pass (byte ∷ text) all =
-    let b = both (is_ascii_digit byte) (list_all is_ascii_digit text) all in
+    let b = and_parts (is_ascii_digit byte) (list_all is_ascii_digit text) all in
     ap (λ (t : Bool). cond t (1 + prefix_len no_point text) 0) (digit_no_point byte b.0) ∙ omega (arith, digits_pass text b.1)
 
 point_is : (text : List ℕ) (n : ℕ) → prefix_len no_point text ≡ n → (b : Bool) → ltb n (length text) ≡ b → position is_point text ≡ cond b (Some n) None
@@ -131,7 +127,7 @@ within w f most some few short =
 pub number_again : (most places : ℕ) (text : List ℕ) (n : ℕ) → IsNumber most places text n → number_of most places text ≡ Some n
 unfolding number_of scaled digits_of
 number_again most places text n h =
-    let all = both (list_all is_ascii_digit h.whole) (list_all is_ascii_digit h.fraction) (sym (list_all-append is_ascii_digit h.whole h.fraction) ∙ h.digits) in
+    let all = and_parts (list_all is_ascii_digit h.whole) (list_all is_ascii_digit h.fraction) (sym (list_all-append is_ascii_digit h.whole h.fraction) ∙ h.digits) in
     let parts : parts_of text ≡ Some (h.whole, h.fraction) = ap parts_of h.spelled ∙ parts_again h.whole h.fraction all.0 in
     let test : List ℕ × List ℕ → Bool = λ p. (eqb (length p.0) 0 || ltb 9 (length p.0)) || ltb most (length p.1) in
     let passes : test (h.whole, h.fraction) ≡ false = within (length h.whole) (length h.fraction) most h.begins h.whole_len h.fraction_len in

@@ -6,7 +6,7 @@ use Rattle.spd_solver.specs.declared.small.unread.Unread.{Unread}
 use Rattle.spd_solver.specs.declared.small.unread.Unread.TheVariants.{Refused, Memory}
 use Rattle.spd_solver.specs.SmallToken.{tokens_of}
 use Rattle.spd_solver.specs.Small.{IsSmall}
-use Rattle.spd_solver.specs.SmallReading.{Gives, file_at}
+use Rattle.spd_solver.specs.inner.SmallReading.{Gives, file_at}
 use Rattle.std.proofs.lemmas.Option.{same_Some, none-some}
 use Rattle.spd_solver.proofs.SmallFilesTaken.{file_takes}
 use Rattle.spd_solver.proofs.SmallFilesAgain.{file_again}

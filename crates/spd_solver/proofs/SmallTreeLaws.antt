@@ -7,7 +7,7 @@ use Rattle.spd_model.specs.declared.process.Var.{Var}
 use Rattle.spd_solver.specs.declared.small.trees.Role.{Role}
 use Rattle.spd_solver.specs.declared.small.trees.Role.TheVariants.{Table, Reward}
 use Rattle.spd_solver.specs.Small.{IsHead, value_number}
-use Rattle.spd_solver.specs.SmallReading.{head_of}
+use Rattle.spd_solver.specs.inner.SmallReading.{head_of}
 use Rattle.spd_solver.proofs.SmallSteps.{same_bytes, bytes_same}
 
 -- ---- places of a list

@@ -9,7 +9,7 @@ use Rattle.spd_model.specs.declared.process.Var.{Var}
 use Rattle.spd_solver.specs.declared.small.unread.Unread.{Unread}
 use Rattle.spd_solver.specs.declared.small.unread.Unread.TheVariants.{Refused, Memory}
 use Rattle.spd_solver.specs.SmallToken.{Token}
-use Rattle.spd_solver.specs.SmallReading.{Fails, branch_at, filled, branches_at, all_of}
+use Rattle.spd_solver.specs.inner.SmallReading.{Fails, branch_at, filled, branches_at, all_of}
 
 -- two tests are the same where each passes if the other does
 same_tests : (a b : Bool) → (a ≡ true → b ≡ true) → (b ≡ true → a ≡ true) → a ≡ b

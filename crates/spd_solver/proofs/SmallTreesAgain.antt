@@ -9,7 +9,7 @@ use Rattle.spd_solver.specs.declared.small.trees.Role.{Role}
 use Rattle.spd_solver.specs.SmallToken.{Token, opening, closing, word}
 use Rattle.spd_solver.specs.SmallSyntax.{Shape, number, choice, Branches, none, branch, tokens_of_tree, tokens_of_branches}
 use Rattle.spd_solver.specs.Small.{IsNumber, most_digits, IsHead, value_number, named, MeansTree, MeansKids}
-use Rattle.spd_solver.specs.SmallReading.{◌>>=◌, closing_at, word_at, branch_at, fill_step, filled, branches_at, all_of, inside_at, leaf_at, tree_step, tree_at}
+use Rattle.spd_solver.specs.inner.SmallReading.{◌>>=◌, closing_at, word_at, branch_at, fill_step, filled, branches_at, all_of, inside_at, leaf_at, tree_step, tree_at}
 use Rattle.spd_solver.proofs.SmallSteps.{opening_again, closing_again, word_again}
 use Rattle.spd_solver.proofs.SmallNumberLaws.{number_again}
 use Rattle.spd_solver.proofs.SmallTreeLaws.{set_there, same_text, value_within, head_again}

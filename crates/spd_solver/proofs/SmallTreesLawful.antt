@@ -1,5 +1,6 @@
 -- Trees that are read keep what every model keeps.
-use Rattle.std.proofs.Common.{◌≡◌, ℕ, zero, suc, ◌+◌, ◌-◌, ◌*◌, ◌^◌, ◌%◌, ◌<◌, ◌≤◌, max, Bool, true, false, List, [], ◌∷◌, ◌++◌, length, map, replicate, Option, Some, None, pos, refl, sym, ap, subst, ◌∙◌, arith}
+use Rattle.std.proofs.Common.{◌≡◌, ℕ, zero, suc, ◌+◌, ◌-◌, ◌*◌, ◌^◌, ◌%◌, ◌<◌, ◌≤◌, max, Bool, true, false, List, [], ◌∷◌, length, map, replicate, Option, Some, None, pos, refl, sym, ap, subst, ◌∙◌, arith}
+use Rattle.std.proofs.lemmas.Bool.{and_parts}
 use Rattle.std.specs.Prelude.{slice_set, slice_index, All, fold, flat_map, unsigned_abs}
 use Rattle.std.specs.List.{list_all}
 use Rattle.std.specs.Char.{is_ascii_digit}
@@ -24,10 +25,10 @@ use Rattle.spd_solver.specs.declared.small.trees.Role.{Role}
 use Rattle.spd_solver.specs.declared.small.trees.Role.TheVariants.{Table, Reward}
 use Rattle.spd_solver.specs.SmallToken.{Token}
 use Rattle.spd_solver.specs.Small.{IsNumber, IsHead, most_digits, value_number}
-use Rattle.spd_solver.specs.SmallReading.{◌>>=◌, opening_at, closing_at, word_at, number_of, head_of, branch_at, filled, branches_at, all_of, inside_at, leaf_at, tree_step, tree_at}
+use Rattle.spd_solver.specs.inner.SmallReading.{◌>>=◌, opening_at, closing_at, word_at, number_of, head_of, branch_at, filled, branches_at, all_of, inside_at, leaf_at, tree_step, tree_at}
 use Rattle.spd_solver.proofs.SmallSteps.{bind_some}
 use Rattle.spd_solver.proofs.SmallNumbers.{digit_is, units_bound}
-use Rattle.spd_solver.proofs.SmallNumberLaws.{number_takes, both}
+use Rattle.spd_solver.proofs.SmallNumberLaws.{number_takes}
 use Rattle.spd_solver.proofs.SmallTreeLaws.{length_set, head_takes}
 use Rattle.spd_solver.proofs.SmallTreesTaken.{filled_takes}
 
@@ -36,14 +37,14 @@ use Rattle.spd_solver.proofs.SmallTreesTaken.{filled_takes}
 all_digits : (text : List ℕ) → list_all is_ascii_digit text ≡ true → AllDigits 10 text
 all_digits [] all = tt
 all_digits (byte ∷ text) all =
-    let b = both (is_ascii_digit byte) (list_all is_ascii_digit text) all in
+    let b = and_parts (is_ascii_digit byte) (list_all is_ascii_digit text) all in
     let d = digit_is byte b.0 in
     (omega (arith, d.0, d.1, d.2), all_digits text b.1)
 
 -- a number that is read is far below the greatest
 pub IsNumber-lt : (most places : ℕ) (text : List ℕ) (n : ℕ) → IsNumber most places text n → most ≤ 12 → places ≤ 12 → n < 10 ^ 25
 IsNumber-lt most places text n h most_le places_le =
-    let all = both (list_all is_ascii_digit h.whole) (list_all is_ascii_digit h.fraction) (sym (list_all-append is_ascii_digit h.whole h.fraction) ∙ h.digits) in
+    let all = and_parts (list_all is_ascii_digit h.whole) (list_all is_ascii_digit h.fraction) (sym (list_all-append is_ascii_digit h.whole h.fraction) ∙ h.digits) in
     let bound = units_bound (digits_value 10 h.whole) (digits_value 10 h.fraction) (length h.whole) (length h.fraction) places h.whole_len (omega (arith, h.fraction_len)) places_le
     (digits_value-lt 10 h.whole (all_digits h.whole all.0)) (digits_value-lt 10 h.fraction (all_digits h.fraction all.1)) in
     subst (λ (m : ℕ). m < 10 ^ 25) (sym h.value) bound

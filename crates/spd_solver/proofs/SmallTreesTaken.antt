@@ -12,10 +12,10 @@ use Rattle.spd_solver.specs.declared.small.trees.Role.{Role}
 use Rattle.spd_solver.specs.SmallToken.{Token, opening, closing, word}
 use Rattle.spd_solver.specs.SmallSyntax.{Shape, number, choice, Branches, none, branch, tokens_of_tree, tokens_of_branches}
 use Rattle.spd_solver.specs.Small.{most_digits, value_number, named, MeansTree, MeansKids}
-use Rattle.spd_solver.specs.SmallReading.{◌>>=◌, opening_at, closing_at, word_at, number_of, head_of, branch_at, fill_step, filled, branches_at, all_of, inside_at, leaf_at, tree_step, tree_at, are_distinct}
-use Rattle.std.proofs.lemmas.Bool.{or_parts}
-use Rattle.spd_solver.proofs.SmallSteps.{bind_some, not_true, same_bytes, opening_takes, closing_takes, word_takes}
-use Rattle.spd_solver.proofs.SmallNumberLaws.{number_takes, both}
+use Rattle.spd_solver.specs.inner.SmallReading.{◌>>=◌, opening_at, closing_at, word_at, number_of, head_of, branch_at, fill_step, filled, branches_at, all_of, inside_at, leaf_at, tree_step, tree_at, are_distinct}
+use Rattle.std.proofs.lemmas.Bool.{or_parts, and_parts, not-true}
+use Rattle.spd_solver.proofs.SmallSteps.{bind_some, same_bytes, opening_takes, closing_takes, word_takes}
+use Rattle.spd_solver.proofs.SmallNumberLaws.{number_takes}
 use Rattle.spd_solver.proofs.SmallTreeLaws.{set_here, set_there, length_set, head_takes}
 
 -- ---- texts that differ
@@ -30,14 +30,14 @@ unfolding are_distinct
 distinct_pairs [] distinct i j d before within = absurd (omega arith)
 distinct_pairs (x ∷ xs) distinct i zero d before within = absurd (omega arith)
 distinct_pairs (x ∷ xs) distinct zero (suc j) d before within =
-    let first = both (not (list_any (bytes_eq x) xs)) (are_distinct xs) distinct in
-    let differs = none_passes (bytes_eq x) xs (not_true (list_any (bytes_eq x) xs) first.0) j d (omega arith) in
+    let first = and_parts (not (list_any (bytes_eq x) xs)) (are_distinct xs) distinct in
+    let differs = none_passes (bytes_eq x) xs (not-true (list_any (bytes_eq x) xs) first.0) j d (omega arith) in
     λ same. absurd (clash _ ((bytes_eq-Decides x (get_or xs j d)).1 same) differs)
   where
     clash : (b : Bool) → b ≡ true → b ≡ false → ⊥
     clash b passes fails = absurd cc
 distinct_pairs (x ∷ xs) distinct (suc i) (suc j) d before within =
-    distinct_pairs xs (both (not (list_any (bytes_eq x) xs)) (are_distinct xs) distinct).1 i j d (omega arith) (omega arith)
+    distinct_pairs xs (and_parts (not (list_any (bytes_eq x) xs)) (are_distinct xs) distinct).1 i j d (omega arith) (omega arith)
 
 -- ---- branches that were read
 

@@ -1,10 +1,8 @@
 -- From what value iteration on tables comes to, to the solution of a process and to why it has none.
-use Rattle.std.proofs.Common.{◌≡◌, ℕ, ◌<◌, List, length, All, ℤ, pos, ◌≤ℤ◌, refl, sym, ap, subst, ◌∙◌}
+use Rattle.std.proofs.Common.{◌≡◌, ℕ, ◌<◌, List, length, All, pos, sym, ap, subst, ◌∙◌}
 use Rattle.spd_scaled.specs.Scaled.{IsWithin}
 use Rattle.spd_model.specs.declared.options.Options.{Options}
-use Rattle.spd_model.specs.Options.{AreOptions}
 use Rattle.spd_model.specs.Process.{Process}
-use Rattle.spd_model.specs.Lawful.{IsLawful}
 use Rattle.spd_model.specs.States.{sizes, IsState}
 use Rattle.spd_model.specs.Chances.{IsValid}
 use Rattle.spd_model.specs.Turns.{turn, stop_of, stop_value, residual_of, value_limit}
@@ -12,15 +10,12 @@ use Rattle.spd_model.specs.ResultText.{result_of}
 use Rattle.spd_model.proofs.CallerLemmas.StateOrder.{length-IsState, length-sizes}
 use Rattle.spd_bellman.specs.Bound.{IsNearOptimal}
 use Rattle.spd_plain.specs.declared.Plain.{Plain}
-use Rattle.spd_plain.specs.declared.PlainFault.{PlainFault}
-use Rattle.spd_plain.specs.declared.PlainFault.TheVariants as Fault
-use Rattle.spd_plain.specs.Plain.{plain_of, told_of, FaultCause, IsInvalid}
+use Rattle.spd_plain.specs.Plain.{plain_of, told_of}
 use Rattle.spd_frozen.specs.declared.iterate.Iterate.{Iterate}
 use Rattle.spd_frozen.specs.Fits.{FitsModel}
 use Rattle.spd_frozen.specs.Told.{told}
-use Rattle.spd_solver.specs.declared.solving.Unsolved.{Unsolved}
-use Rattle.spd_solver.specs.Solve.{value, RefusesProcess}
-use Rattle.spd_solver.specs.inner.Stages.{IsSolution, told_fault, unsolved_status}
+use Rattle.spd_solver.specs.Solve.{value}
+use Rattle.spd_solver.specs.inner.Stages.{IsSolution}
 use Rattle.spd_solver.proofs.TableLaws.{policy_within, place_within}
 
 module _ (m : Process) (options : Options) (p : Plain) (is : p ≡ plain_of m options.turns options.span) where

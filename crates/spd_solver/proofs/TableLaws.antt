@@ -1,5 +1,5 @@
 -- What the tables of a result come to as diagrams, and that they fit their model.
-use Rattle.std.proofs.Common.{◌≡◌, ℕ, ◌<◌, Bool, true, false, cond, List, length, map, slice_index, All, ℤ, pos, refl, sym, ap, subst, ◌∙◌, arith}
+use Rattle.std.proofs.Common.{◌≡◌, ℕ, ◌<◌, Bool, true, false, cond, List, length, map, slice_index, All, ℤ, pos, sym, ap, subst, ◌∙◌, arith}
 use Rattle.std.proofs.lemmas.List.{get_or-map}
 use Rattle.std.proofs.lemmas.Option.{slice_get_within}
 use Rattle.std.proofs.Math.ListN.{length-map}
@@ -11,11 +11,9 @@ use Rattle.spd_model.specs.Lawful.{IsLawful}
 use Rattle.spd_model.specs.States.{sizes, at, rank, state_count, IsState, table_of}
 use Rattle.spd_model.specs.Backup.{best_high, high_of, highest_of, policy_of}
 use Rattle.spd_model.specs.Turns.{Place, place_of, gap_above, state_of_residual, value_limit}
-use Rattle.spd_model.specs.Reduced.{Node}
 use Rattle.spd_model.proofs.CallerLemmas.Gaps.{policy_near}
 use Rattle.spd_model.proofs.CallerLemmas.Greatest.{first_place_reads, greatest_reached}
 use Rattle.spd_model.proofs.CallerLemmas.StateOrder.{All-table_of, rank_below, sizes_some}
-use Rattle.spd_nodes.specs.declared.leaf.Leaf.{Leaf}
 use Rattle.spd_nodes.specs.declared.leaf.Leaf.TheVariants.{Num, Act}
 use Rattle.spd_plain.specs.declared.Plain.{Plain}
 use Rattle.spd_plain.specs.Plain.{IsShaped, told_of}

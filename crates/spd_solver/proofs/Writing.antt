@@ -1,5 +1,5 @@
 -- Pieces that are written one after another.
-use Rattle.std.proofs.Common.{◌≡◌, ℕ, zero, suc, ◌+◌, ◌<◌, ◌≤◌, List, [], ◌∷◌, ◌++◌, length, take, drop, get_or, Bor, Option, ap, sym, ◌∙◌, subst, arith, append_assoc, append-nil, add-one, refl}
+use Rattle.std.proofs.Common.{◌≡◌, ℕ, zero, suc, ◌+◌, ◌<◌, List, [], ◌∷◌, ◌++◌, length, take, drop, get_or, Bor, Option, ap, sym, ◌∙◌, subst, arith, append_assoc, append-nil, add-one, refl}
 use Rattle.std.specs.Prelude.{flat_map}
 use Rattle.spd_edge.specs.Told.{Took, TookFront}
 use Rattle.spd_edge.proofs.CallerLemmas.{Took-trans, TookFront-more, TookFront-longer}

@@ -1,11 +1,8 @@
 pub mod Command
 pub mod Message
 pub mod SmallToken
-pub mod SmallSeen
 pub mod SmallSyntax
 pub mod Small
-pub mod SmallReading
-pub mod SmallContents
 pub mod Run
 pub mod Describes
 pub mod Kind

@@ -1,6 +1,6 @@
 -- What a command answers: of the files that the place holds, of what the output took, and of the faults of the outside.
 use Rattle.std.specs.Prelude.{ℕ, ◌<◌, ◌≡◌, List, length, Option, Some, IfSome}
-use Rattle.spd_edge.specs.Counts.{Rose, NoneFalls}
+use Rattle.spd_edge.specs.Counts.{Rose}
 use Rattle.spd_edge.specs.Direction.{Direction}
 use Rattle.spd_edge.specs.Told.{Took, TookFront}
 use Rattle.spd_edge.specs.declared.outside.Stage.TheVariants as Stage

@@ -1,5 +1,5 @@
 -- The stages of a command: what each gives, why it fails, and the status of each failure.
-use Rattle.std.specs.Prelude.{ℕ, zero, suc, ◌<◌, ◌≡◌, List, [], ◌++◌, length, codes, Option, Some, IfSome, Result, Ok, Err}
+use Rattle.std.specs.Prelude.{ℕ, zero, suc, ◌<◌, ◌≡◌, List, [], ◌++◌, length, codes, Some, IfSome, Result, Ok, Err}
 use Rattle.spd_edge.specs.Counts.{Rose}
 use Rattle.spd_edge.specs.Direction.{Direction}
 use Rattle.spd_edge.specs.declared.outside.Stage.TheVariants as Stage
@@ -19,13 +19,9 @@ use Rattle.spd_model.specs.declared.options.Options.{Options}
 use Rattle.spd_solver.specs.declared.command.Command.{Command as Said}
 use Rattle.spd_solver.specs.declared.command.Command.TheVariants.{Solve}
 use Rattle.spd_solver.specs.declared.file.Unreadable.{Unreadable}
-use Rattle.spd_solver.specs.declared.file.Unreadable.TheVariants as Unreadable
 use Rattle.spd_solver.specs.declared.small.unread.Unread.{Unread}
-use Rattle.spd_solver.specs.declared.small.unread.Unread.TheVariants as Unread
 use Rattle.spd_solver.specs.declared.solving.Unsolved.{Unsolved}
-use Rattle.spd_solver.specs.declared.solving.Unsolved.TheVariants as Unsolved
 use Rattle.spd_solver.specs.declared.status.Status.{Status}
-use Rattle.spd_solver.specs.declared.status.Status.TheVariants as Status
 use Rattle.spd_solver.specs.Command.{Command, solve}
 use Rattle.spd_solver.specs.Solve.{state_text, value}
 

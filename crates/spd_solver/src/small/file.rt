@@ -6,11 +6,11 @@ ghost use Rattle.std.specs.Str.{bytes_eq};
 ghost use Rattle.spd_model.specs.Names.{is_value_name};
 ghost use Rattle.spd_model.specs.declared.process.Action.{Action as ActionValue};
 ghost use Rattle.spd_solver.specs.SmallToken.{tokens_of};
-ghost use Rattle.spd_solver.specs.SmallReading.{Gives, are_distinct, words_at, variable_of, variable_at, action_of, action_at, begins_action, actions_at, named_actions_at, discount_of, settings_at, file_at};
+ghost use Rattle.spd_solver.specs.inner.SmallReading.{Gives, are_distinct, words_at, variable_of, variable_at, action_of, action_at, begins_action, actions_at, named_actions_at, discount_of, settings_at, file_at};
 ghost use Rattle.spd_model.specs.Process.{Process};
 ghost use Rattle.spd_solver.specs.declared.small.unread.Unread.TheVariants.{Refused};
 ghost use Rattle.spd_solver.specs.Small.{IsSmall};
-ghost use Rattle.spd_solver.specs.SmallContents.{process_of};
+ghost use Rattle.spd_solver.specs.inner.SmallContents.{process_of};
 
 use crate::small::lexer::{after_keyword, close, keyword, next_word, open, token_at, word};
 use crate::small::trees::{Role, TreeReader};
@@ -77,7 +77,7 @@ fn words(alloc: Global, bytes: &[u8]) -> Result<(Items<Name>, &[u8]), Unread>
     Ok((words, rest))
 }
 
-#[tactic(auto, unfolding(crate::specs::SmallReading::variable_of))]
+#[tactic(auto, unfolding(crate::specs::inner::SmallReading::variable_of))]
 fn variable_of(alloc: Global, name: &[u8], values: Items<Name>) -> Result<Var, Unread>
     ensures { Gives (λ var. var) result (variable_of name.now values) }
 {
@@ -93,7 +93,7 @@ fn variable_of(alloc: Global, name: &[u8], values: Items<Name>) -> Result<Var, U
 }
 
 /// The variable with its values, and the bytes after it.
-#[tactic(auto, unfolding(crate::specs::SmallReading::variable_at))]
+#[tactic(auto, unfolding(crate::specs::inner::SmallReading::variable_at))]
 fn variable(alloc: Global, bytes: &[u8]) -> Result<(Var, &[u8]), Unread>
     ensures { Gives (λ x. (x.0, tokens_of x.1.now)) result (variable_at (tokens_of bytes.now)) }
 {
@@ -106,7 +106,7 @@ fn variable(alloc: Global, bytes: &[u8]) -> Result<(Var, &[u8]), Unread>
 }
 
 /// The action of these texts and this table.
-#[tactic(auto, unfolding(crate::specs::SmallReading::action_of))]
+#[tactic(auto, unfolding(crate::specs::inner::SmallReading::action_of))]
 fn action_of(
     alloc: Global,
     var: &Var,
@@ -126,7 +126,7 @@ fn action_of(
 }
 
 /// An action over the variable, and the bytes after it.
-#[tactic(auto, unfolding(crate::specs::SmallReading::action_at))]
+#[tactic(auto, unfolding(crate::specs::inner::SmallReading::action_at))]
 fn action<'b>(alloc: Global, var: &Var, bytes: &'b [u8]) -> Result<(Action, &'b [u8]), Unread>
     ensures { Gives (λ x. (x.0, tokens_of x.1.now)) result
         (action_at var.now (tokens_of bytes.now)) }
@@ -186,7 +186,7 @@ fn have_distinct_names(alloc: Global, actions: &Items<Action>) -> Result<bool, A
 }
 
 /// At least one action, each with a name of its own, and the bytes after them.
-#[tactic(auto, unfolding(crate::specs::SmallReading::named_actions_at))]
+#[tactic(auto, unfolding(crate::specs::inner::SmallReading::named_actions_at))]
 fn named_actions<'b>(
     alloc: Global,
     var: &Var,
@@ -207,7 +207,7 @@ fn named_actions<'b>(
 }
 
 /// The discount, in units of 10^-6. It is below one.
-#[tactic(auto, unfolding(crate::specs::SmallReading::discount_of))]
+#[tactic(auto, unfolding(crate::specs::inner::SmallReading::discount_of))]
 fn discount(text: &[u8]) -> Result<u32, Unread>
     ensures { Gives (λ n. n) result (discount_of text.now) }
 {
@@ -219,7 +219,7 @@ fn discount(text: &[u8]) -> Result<u32, Unread>
 }
 
 /// The discount in units of 10^-6 and the tolerance in units of 10^-9, with nothing after them.
-#[tactic(auto, unfolding(crate::specs::SmallReading::settings_at))]
+#[tactic(auto, unfolding(crate::specs::inner::SmallReading::settings_at))]
 fn settings(bytes: &[u8]) -> Result<(u32, u128), Unread>
     ensures value { Gives (λ x. (x.0, x.1)) result (settings_at (tokens_of bytes.now)) }
     ensures bound { IfOk result (λ x. x.1 < 10 ^ 25) }
@@ -246,7 +246,7 @@ struct Contents {
     tolerance: u128,
 }
 
-#[tactic(auto, unfolding(crate::specs::SmallReading::file_at))]
+#[tactic(auto, unfolding(crate::specs::inner::SmallReading::file_at))]
 fn read_contents(alloc: Global, bytes: &[u8]) -> Result<Contents, Unread>
     ensures value { Gives process_of result (file_at (tokens_of bytes.now)) }
     ensures bound { IfOk result (λ x. x.tolerance < 10 ^ 25) }

@@ -3,8 +3,8 @@
 ghost use Rattle.std.specs.Prelude.{◌≡◌, [], ◌∷◌, false, MatchOption, option_map};
 ghost use Rattle.std.specs.List.{prefix_len};
 ghost use Rattle.spd_solver.specs.SmallToken.{is_blank, is_word_byte, begins_blank, tokens_of};
-ghost use Rattle.spd_solver.specs.SmallSeen.{seen};
-ghost use Rattle.spd_solver.specs.SmallReading.{Gives, opening_at, closing_at, word_at, keyword_at};
+ghost use Rattle.spd_solver.specs.inner.SmallSeen.{seen};
+ghost use Rattle.spd_solver.specs.inner.SmallReading.{Gives, opening_at, closing_at, word_at, keyword_at};
 
 use crate::small::unread::Unread;
 
@@ -68,7 +68,7 @@ pub(crate) fn token_at(bytes: &[u8]) -> Option<(Token<'_>, &[u8])>
 }
 
 /// The bytes after the closing bracket that stands next, where one does.
-#[tactic(auto, unfolding(crate::specs::SmallReading::closing_at))]
+#[tactic(auto, unfolding(crate::specs::inner::SmallReading::closing_at))]
 pub(crate) fn closed(bytes: &[u8]) -> Option<&[u8]>
     ensures { option_map (λ rest. tokens_of rest.now) result ≡ closing_at (tokens_of bytes.now) }
 {
@@ -79,7 +79,7 @@ pub(crate) fn closed(bytes: &[u8]) -> Option<&[u8]>
 }
 
 /// The bytes after a closing bracket.
-#[tactic(auto, unfolding(crate::specs::SmallReading::closing_at))]
+#[tactic(auto, unfolding(crate::specs::inner::SmallReading::closing_at))]
 pub(crate) fn close(bytes: &[u8]) -> Result<&[u8], Unread>
     ensures { Gives (λ rest. tokens_of rest.now) result (closing_at (tokens_of bytes.now)) }
 {
@@ -87,7 +87,7 @@ pub(crate) fn close(bytes: &[u8]) -> Result<&[u8], Unread>
 }
 
 /// The bytes after an opening bracket.
-#[tactic(auto, unfolding(crate::specs::SmallReading::opening_at))]
+#[tactic(auto, unfolding(crate::specs::inner::SmallReading::opening_at))]
 pub(crate) fn open(bytes: &[u8]) -> Result<&[u8], Unread>
     ensures { Gives (λ rest. tokens_of rest.now) result (opening_at (tokens_of bytes.now)) }
 {
@@ -98,7 +98,7 @@ pub(crate) fn open(bytes: &[u8]) -> Result<&[u8], Unread>
 }
 
 /// The word that stands next, where one does, and the bytes after it.
-#[tactic(auto, unfolding(crate::specs::SmallReading::word_at))]
+#[tactic(auto, unfolding(crate::specs::inner::SmallReading::word_at))]
 pub(crate) fn next_word(bytes: &[u8]) -> Option<(&[u8], &[u8])>
     ensures { option_map (λ x. (x.0.now, tokens_of x.1.now)) result ≡ word_at (tokens_of bytes.now) }
 {
@@ -109,7 +109,7 @@ pub(crate) fn next_word(bytes: &[u8]) -> Option<(&[u8], &[u8])>
 }
 
 /// A word, and the bytes after it.
-#[tactic(auto, unfolding(crate::specs::SmallReading::word_at))]
+#[tactic(auto, unfolding(crate::specs::inner::SmallReading::word_at))]
 pub(crate) fn word(bytes: &[u8]) -> Result<(&[u8], &[u8]), Unread>
     ensures { Gives (λ x. (x.0.now, tokens_of x.1.now)) result (word_at (tokens_of bytes.now)) }
 {
@@ -117,7 +117,7 @@ pub(crate) fn word(bytes: &[u8]) -> Result<(&[u8], &[u8]), Unread>
 }
 
 /// The bytes after this word, where it stands next.
-#[tactic(auto, unfolding(crate::specs::SmallReading::keyword_at))]
+#[tactic(auto, unfolding(crate::specs::inner::SmallReading::keyword_at))]
 pub(crate) fn after_keyword<'a>(keyword: &[u8], bytes: &'a [u8]) -> Option<&'a [u8]>
     ensures { option_map (λ rest. tokens_of rest.now) result ≡ keyword_at keyword.now (tokens_of bytes.now) }
 {

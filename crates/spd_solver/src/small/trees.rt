@@ -5,7 +5,7 @@ ghost use Rattle.std.specs.Str.{bytes_eq};
 ghost use Rattle.std.specs.List.{position};
 ghost use Rattle.spd_solver.specs.SmallToken.{tokens_of};
 ghost use Rattle.spd_solver.specs.Small.{value_number};
-ghost use Rattle.spd_solver.specs.SmallReading.{Gives, head_of, branch_at, filled, branches_at, all_of, inside_at, leaf_at, tree_at};
+ghost use Rattle.spd_solver.specs.inner.SmallReading.{Gives, head_of, branch_at, filled, branches_at, all_of, inside_at, leaf_at, tree_at};
 
 use crate::small::lexer::{close, closed, open, word};
 use crate::small::unread::Unread;
@@ -33,7 +33,7 @@ fn is_primed(word: &[u8], name: &[u8]) -> bool
 }
 
 /// Whether the head of a tree is primed.
-#[tactic(auto, unfolding(crate::specs::SmallReading::head_of))]
+#[tactic(auto, unfolding(crate::specs::inner::SmallReading::head_of))]
 fn head(role: Role, var: &Var, word: &[u8]) -> Result<bool, Unread>
     ensures { Gives (λ primed. primed) result (head_of role var.now word.now) }
 {
@@ -65,7 +65,7 @@ fn value(var: &Var, word: &[u8]) -> Result<usize, Unread>
     number_in(var.values.as_slice(), word).ok_or(Unread::Refused)
 }
 
-#[tactic(auto, unfolding(crate::specs::SmallReading::leaf_at))]
+#[tactic(auto, unfolding(crate::specs::inner::SmallReading::leaf_at))]
 fn leaf<'b>(role: Role, head: &[u8], rest: &'b [u8]) -> Result<(Tree, &'b [u8]), Unread>
     ensures { Gives (λ x. (x.0, tokens_of x.1.now)) result
         (leaf_at role head.now (tokens_of rest.now)) }
@@ -90,7 +90,7 @@ fn free_slots(alloc: Global, count: usize) -> Result<Vec<Option<Tree>>, AllocErr
 }
 
 /// Puts a kid in its place, which is to be free.
-#[tactic(auto, unfolding(crate::specs::SmallReading::filled))]
+#[tactic(auto, unfolding(crate::specs::inner::SmallReading::filled))]
 fn fill(slots: &mut Vec<Option<Tree>>, v: usize, kid: Tree) -> Result<(), Unread>
     ensures { Gives (λ _. slots.new.items) result (filled slots.old.items v kid) }
 {
@@ -128,7 +128,7 @@ pub(crate) struct TreeReader<'v> {
 impl TreeReader<'_> {
     /// A tree in which at most `depth` trees stand inside one another, and the bytes after it.
     #[cycle(nest)]
-    #[tactic(auto, unfolding(crate::specs::SmallReading::tree_at))]
+    #[tactic(auto, unfolding(crate::specs::inner::SmallReading::tree_at))]
     pub(crate) fn tree<'b>(&self, depth: u32, bytes: &'b [u8]) -> Result<(Tree, &'b [u8]), Unread>
         ensures { Gives (λ x. (x.0, tokens_of x.1.now)) result
             (tree_at self.now.role self.now.var.now depth (tokens_of bytes.now)) }
@@ -146,7 +146,7 @@ impl TreeReader<'_> {
 
     /// What stands between the head of a tree and the end of its brackets.
     #[cycle(nest)]
-    #[tactic(auto, unfolding(crate::specs::SmallReading::inside_at))]
+    #[tactic(auto, unfolding(crate::specs::inner::SmallReading::inside_at))]
     fn choice<'b>(
         &self,
         depth: u32,
@@ -196,7 +196,7 @@ impl TreeReader<'_> {
 
     /// A branch: the number of its value, its tree, and the bytes after it.
     #[cycle(nest)]
-    #[tactic(auto, unfolding(crate::specs::SmallReading::branch_at))]
+    #[tactic(auto, unfolding(crate::specs::inner::SmallReading::branch_at))]
     fn branch<'b>(&self, depth: u32, bytes: &'b [u8]) -> Result<(usize, Tree, &'b [u8]), Unread>
         ensures { Gives (λ x. (x.0, x.1, tokens_of x.2.now)) result
             (branch_at (tree_at self.now.role self.now.var.now depth) self.now.var.now (tokens_of bytes.now)) }

@@ -1,4 +1,4 @@
-use Rattle.std.proofs.Common.{◌≡◌, ℕ, ◌<◌, length, ℤ, subst, FitsSigned, rules}
+use Rattle.std.proofs.Common.{◌≡◌, ◌<◌, length, ℤ, subst, FitsSigned, rules}
 use Rattle.std.specs.Int.{w128}
 use Rattle.std.proofs.lemmas.Int.{to_z-of_z}
 use Rattle.spd_model.specs.Process.{Process}

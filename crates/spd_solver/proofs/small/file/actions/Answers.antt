@@ -1,7 +1,7 @@
 use Rattle.std.proofs.Common.{sym, ◌∙◌, arith}
 use Rattle.std.proofs.lemmas.Result.{err_from_is_err_and}
 use Rattle.spd_solver.specs.SmallToken.{tokens_of}
-use Rattle.spd_solver.specs.SmallReading.{actions_at}
+use Rattle.spd_solver.specs.inner.SmallReading.{actions_at}
 use Rattle.spd_solver.proofs.SmallFiles.{actions_stop, actions_end, actions_more, action_fails}
 use Rattle.spd_solver.proofs.small.file.actions.Goals as goal
 use Rattle.spd_solver.proofs.small.file.actions.Goals.{else-loop-test, then-loop-test+then-not-begins_action}

@@ -1,6 +1,6 @@
 use Rattle.std.proofs.Common.{◌≡◌, ◌-◌}
 use Rattle.spd_solver.specs.SmallToken.{tokens_of}
-use Rattle.spd_solver.specs.SmallReading.{actions_at}
+use Rattle.spd_solver.specs.inner.SmallReading.{actions_at}
 use Rattle.spd_solver.proofs.SmallFiles.{with_actions}
 use Rattle.spd_solver.proofs.small.file.actions.Given as goal
 

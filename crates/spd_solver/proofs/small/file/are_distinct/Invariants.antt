@@ -1,5 +1,5 @@
 use Rattle.std.proofs.Common.{◌≡◌, length}
-use Rattle.spd_solver.specs.SmallReading.{are_distinct}
+use Rattle.spd_solver.specs.inner.SmallReading.{are_distinct}
 use Rattle.spd_solver.proofs.small.file.are_distinct.Given as goal
 
 abbrev pub invariant-loop-rest : goal.invariant-loop-rest

@@ -2,7 +2,7 @@ use Rattle.std.proofs.Common.{◌^◌, ◌<◌, arith}
 use Rattle.std.specs.Int.{w128}
 use Rattle.std.proofs.lemmas.Int.{to_z_pos}
 use Rattle.spd_solver.specs.SmallToken.{tokens_of}
-use Rattle.spd_solver.specs.SmallContents.{process_of}
+use Rattle.spd_solver.specs.inner.SmallContents.{process_of}
 use Rattle.spd_solver.proofs.SmallLawful.{file_lawful}
 use Rattle.spd_solver.proofs.small.file.read_model.Goals as goal
 

@@ -1,6 +1,6 @@
 use Rattle.std.proofs.Common.{Some, sym, ap, arith}
 use Rattle.spd_solver.specs.SmallToken.{tokens_of}
-use Rattle.spd_solver.specs.SmallReading.{words_at}
+use Rattle.spd_solver.specs.inner.SmallReading.{words_at}
 use Rattle.spd_solver.proofs.SmallFiles.{words_stop, words_end, words_more}
 use Rattle.spd_solver.proofs.small.file.words.Goals as goal
 use Rattle.spd_solver.proofs.small.file.words.Goals.{else-loop-test, then-loop-test+in_default}

@@ -1,6 +1,6 @@
 use Rattle.std.proofs.Common.{◌≡◌, ◌-◌}
 use Rattle.spd_solver.specs.SmallToken.{tokens_of}
-use Rattle.spd_solver.specs.SmallReading.{words_at}
+use Rattle.spd_solver.specs.inner.SmallReading.{words_at}
 use Rattle.spd_solver.proofs.SmallFiles.{with_words}
 use Rattle.spd_solver.proofs.small.file.words.Given as goal
 

@@ -1,7 +1,7 @@
 use Rattle.std.proofs.Common.{◌≡◌, ◌∷◌, Some, None, length, ◌∙◌, ap, arith}
 use Rattle.std.specs.Vec.Iter.{into_iter_items}
 use Rattle.std.proofs.lemmas.List.{nil_from_length}
-use Rattle.spd_solver.specs.SmallReading.{all_of}
+use Rattle.spd_solver.specs.inner.SmallReading.{all_of}
 use Rattle.spd_solver.proofs.SmallTrees.{kids_more, kids_missing, kids_done}
 use Rattle.spd_solver.proofs.small.trees.kids.Goals as goal
 

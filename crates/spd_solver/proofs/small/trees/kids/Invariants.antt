@@ -1,6 +1,6 @@
 use Rattle.std.proofs.Common.{◌≡◌}
 use Rattle.std.specs.Vec.Iter.{into_iter_items}
-use Rattle.spd_solver.specs.SmallReading.{all_of}
+use Rattle.spd_solver.specs.inner.SmallReading.{all_of}
 use Rattle.spd_solver.proofs.SmallTrees.{joined}
 use Rattle.spd_solver.proofs.small.trees.kids.Given as goal
 

@@ -1,7 +1,7 @@
 use Rattle.std.proofs.Common.{length, replicate, None, arith}
 use Rattle.std.proofs.lemmas.Result.{err_from_is_err_and}
 use Rattle.spd_solver.specs.SmallToken.{tokens_of}
-use Rattle.spd_solver.specs.SmallReading.{branches_at, tree_at}
+use Rattle.spd_solver.specs.inner.SmallReading.{branches_at, tree_at}
 use Rattle.spd_solver.proofs.SmallTrees.{branches_done, branches_more, branch_fails, fill_fails}
 use Rattle.spd_solver.proofs.small.trees.TreeReader.+nest.Goals as goal
 

@@ -1,6 +1,6 @@
 use Rattle.std.proofs.Common.{◌≡◌, ◌+◌, ◌-◌, ◌*◌, length, replicate, None}
 use Rattle.spd_solver.specs.SmallToken.{tokens_of}
-use Rattle.spd_solver.specs.SmallReading.{branches_at, tree_at}
+use Rattle.spd_solver.specs.inner.SmallReading.{branches_at, tree_at}
 use Rattle.spd_solver.proofs.small.trees.TreeReader.+nest.Given as goal
 
 abbrev pub decreases-tree : goal.decreases-tree
