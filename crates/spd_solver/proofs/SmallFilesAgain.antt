@@ -6,6 +6,7 @@ use Rattle.std.specs.Str.{bytes_eq}
 use Rattle.std.proofs.lemmas.Bool.{le-ltb, lt-ltb}
 use Rattle.std.proofs.lemmas.List.Concat.{flat_map-cons}
 use Rattle.std.proofs.lemmas.List.Sums.{list_all-from_AllPass}
+use Rattle.spd_edge.proofs.CallerLemmas.{bytes_eq-same}
 use Rattle.spd_model.specs.Names.{is_name, is_value_name}
 use Rattle.spd_model.specs.Lawful.{AreDistinct}
 use Rattle.spd_model.specs.Process.{Process}
@@ -17,7 +18,7 @@ use Rattle.spd_solver.specs.SmallToken.{Token, opening, closing, word}
 use Rattle.spd_solver.specs.SmallSyntax.{Shape, ActionText, FileText, tokens_of_tree, tokens_of_action, tokens_of_file}
 use Rattle.spd_solver.specs.Small.{IsNumber, MeansTree, MeansActions, MeansFile}
 use Rattle.spd_solver.specs.inner.SmallReading.{◌>>=◌, closing_at, word_at, keyword_at, number_of, tree_at, are_distinct, words_step, words_at, variable_of, variable_at, action_of, action_at, begins_action, actions_step, actions_at, named_actions_at, discount_of, settings_at, file_at}
-use Rattle.spd_solver.proofs.SmallSteps.{same_bytes, bytes_same, opening_again, closing_again, word_again, keyword_again}
+use Rattle.spd_solver.proofs.SmallSteps.{same_bytes, opening_again, closing_again, word_again, keyword_again}
 use Rattle.spd_solver.proofs.SmallNumberLaws.{not_zero, number_again}
 use Rattle.spd_solver.proofs.SmallTreesAgain.{IsApart, apart_first, distinct_rest, tree_again}
 use Rattle.spd_solver.proofs.SmallFilesTaken.{from_left, regrouped, process}
@@ -86,7 +87,7 @@ unfolding action_of
 action_of_again var name variable table named same =
     let made : Option Action = Some (record { name = name; tables = table ∷ []; cost = [] }) in
     ap (λ (b : Bool). cond (not b || not (bytes_eq variable var.name)) None made) named
-    ∙ ap (λ (b : Bool). cond (not b) None made) (ap (λ (x : List ℕ). bytes_eq x var.name) same ∙ bytes_same var.name)
+    ∙ ap (λ (b : Bool). cond (not b) None made) (ap (λ (x : List ℕ). bytes_eq x var.name) same ∙ bytes_eq-same var.name)
 
 module _ (var : Var) (some : 0 < length var.values) where
   action_again : (text : ActionText) (table : Tree) (rest : List Token) → IsTrue (is_name text.name) → text.variable ≡ var.name → MeansTree Table var 300 text.table table

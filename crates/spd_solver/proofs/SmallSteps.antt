@@ -3,6 +3,7 @@ use Rattle.std.proofs.Common.{◌≡◌, ℕ, Bool, true, false, cond, List, [],
 use Rattle.std.specs.Prelude.{not}
 use Rattle.std.specs.Str.{bytes_eq}
 use Rattle.std.proofs.lemmas.Slice.Eq.{bytes_eq-Decides}
+use Rattle.spd_edge.proofs.CallerLemmas.{bytes_eq-same}
 use Rattle.spd_solver.specs.SmallToken.{Token, opening, closing, word}
 use Rattle.spd_solver.specs.inner.SmallReading.{◌>>=◌, opening_at, closing_at, word_at, keyword_at}
 
@@ -22,9 +23,6 @@ guard_some false o y e = absurd cc
 
 pub same_bytes : (xs ys : List ℕ) → bytes_eq xs ys ≡ true → xs ≡ ys
 same_bytes xs ys e = (bytes_eq-Decides xs ys).0 e
-
-pub bytes_same : (xs : List ℕ) → bytes_eq xs xs ≡ true
-bytes_same xs = (bytes_eq-Decides xs xs).1 refl
 
 -- ---- tokens that were read
 
@@ -74,4 +72,4 @@ word_again text rest = refl
 
 pub keyword_again : (keyword : List ℕ) (rest : List Token) → keyword_at keyword (word keyword ∷ rest) ≡ Some rest
 unfolding keyword_at word_at
-keyword_again keyword rest = ap (λ (b : Bool). cond b (Some rest) None) (bytes_same keyword)
+keyword_again keyword rest = ap (λ (b : Bool). cond b (Some rest) None) (bytes_eq-same keyword)

@@ -3,12 +3,13 @@ use Rattle.std.proofs.Common.{◌≡◌, ℕ, zero, suc, ◌<◌, Bool, true, fa
 use Rattle.std.specs.Prelude.{slice_get, slice_set}
 use Rattle.std.specs.Str.{bytes_eq}
 use Rattle.std.proofs.lemmas.List.Quantifiers.{position-Some}
+use Rattle.spd_edge.proofs.CallerLemmas.{bytes_eq-same}
 use Rattle.spd_model.specs.declared.process.Var.{Var}
 use Rattle.spd_solver.specs.declared.small.trees.Role.{Role}
 use Rattle.spd_solver.specs.declared.small.trees.Role.TheVariants.{Table, Reward}
 use Rattle.spd_solver.specs.Small.{IsHead, value_number}
 use Rattle.spd_solver.specs.inner.SmallReading.{head_of}
-use Rattle.spd_solver.proofs.SmallSteps.{same_bytes, bytes_same}
+use Rattle.spd_solver.proofs.SmallSteps.{same_bytes}
 
 -- ---- places of a list
 
@@ -74,13 +75,13 @@ longer_differs name same = absurd (omega (arith, length-append name (39 ∷ []),
 pub head_again : (role : Role) (var : Var) (text : List ℕ) (primed : Bool) → IsHead role var text primed → head_of role var text ≡ Some primed
 unfolding head_of
 head_again Table var text false is =
-    ap (λ (t : Bool). cond t (Some false) (cond (bytes_eq text (var.name ++ 39 ∷ [])) (Some true) None)) (ap (λ (x : List ℕ). bytes_eq x var.name) is ∙ bytes_same var.name)
+    ap (λ (t : Bool). cond t (Some false) (cond (bytes_eq text (var.name ++ 39 ∷ [])) (Some true) None)) (ap (λ (x : List ℕ). bytes_eq x var.name) is ∙ bytes_eq-same var.name)
 head_again Reward var text false is =
-    ap (λ (t : Bool). cond t (Some false) None) (ap (λ (x : List ℕ). bytes_eq x var.name) is ∙ bytes_same var.name)
+    ap (λ (t : Bool). cond t (Some false) None) (ap (λ (x : List ℕ). bytes_eq x var.name) is ∙ bytes_eq-same var.name)
 head_again Reward var text true is = absurd is
 head_again Table var text true is =
     ap (λ (t : Bool). cond t (Some false) (cond (bytes_eq text (var.name ++ 39 ∷ [])) (Some true) None)) (differs (bytes_eq text var.name) refl)
-    ∙ ap (λ (t : Bool). cond t (Some true) None) (ap (λ (x : List ℕ). bytes_eq x (var.name ++ 39 ∷ [])) is ∙ bytes_same (var.name ++ 39 ∷ []))
+    ∙ ap (λ (t : Bool). cond t (Some true) None) (ap (λ (x : List ℕ). bytes_eq x (var.name ++ 39 ∷ [])) is ∙ bytes_eq-same (var.name ++ 39 ∷ []))
   where
     differs : (b : Bool) → bytes_eq text var.name ≡ b → b ≡ false
     differs true same = absurd (longer_differs var.name (sym is ∙ same_bytes text var.name same))

@@ -1,4 +1,5 @@
 -- Trees: primed heads, and the places of kids.
+use Rattle.std.specs.Cmp.{both_ways}
 use Rattle.std.proofs.Common.{◌≡◌, ℕ, suc, ◌+◌, ◌-◌, ◌<◌, ◌≤◌, Bool, true, false, List, [], ◌∷◌, ◌++◌, length, get_or, take, Option, Some, None, refl, sym, ap, ◌∙◌, append_assoc, arith}
 use Rattle.std.specs.Prelude.{option_map}
 use Rattle.std.specs.Str.{bytes_eq}
@@ -10,12 +11,6 @@ use Rattle.spd_solver.specs.declared.small.unread.Unread.{Unread}
 use Rattle.spd_solver.specs.declared.small.unread.Unread.TheVariants.{Refused, Memory}
 use Rattle.spd_solver.specs.SmallToken.{Token}
 use Rattle.spd_solver.specs.inner.SmallReading.{Fails, branch_at, filled, branches_at, all_of}
-
--- two tests are the same where each passes if the other does
-same_tests : (a b : Bool) → (a ≡ true → b ≡ true) → (b ≡ true → a ≡ true) → a ≡ b
-same_tests true b there back = sym (there refl)
-same_tests false true there back = back refl
-same_tests false false there back = refl
 
 -- ---- primed heads
 
@@ -44,12 +39,12 @@ primed_is word name some last =
     let whole : word ≡ front ++ 39 ∷ [] = last_is word some ∙ ap (λ (byte : ℕ). front ++ byte ∷ []) last in
     let here = bytes_eq-Decides front name in
     let there = bytes_eq-Decides word (name ++ 39 ∷ []) in
-    same_tests _ _ (λ t. there.1 (whole ∙ ap (λ (xs : List ℕ). xs ++ 39 ∷ []) (here.0 t))) (λ t. here.1 (front_is front name 39 (sym whole ∙ there.0 t)).0)
+    both_ways _ _ (λ t. there.1 (whole ∙ ap (λ (xs : List ℕ). xs ++ 39 ∷ []) (here.0 t))) (λ t. here.1 (front_is front name 39 (sym whole ∙ there.0 t)).0)
 
 pub unprimed_is : (word name : List ℕ) → 0 < length word → (get_or word (length word - 1) 0 ≡ 39 → ⊥) → false ≡ bytes_eq word (name ++ 39 ∷ [])
 unprimed_is word name some last =
     let there = bytes_eq-Decides word (name ++ 39 ∷ []) in
-    same_tests _ _ (λ t. absurd cc) (λ t. absurd (last (front_is (take (length word - 1) word) name _ (sym (last_is word some) ∙ there.0 t)).1))
+    both_ways _ _ (λ t. absurd cc) (λ t. absurd (last (front_is (take (length word - 1) word) name _ (sym (last_is word some) ∙ there.0 t)).1))
 
 -- ---- the places of kids
 
