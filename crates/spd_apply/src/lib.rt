@@ -1,4 +1,12 @@
 //! Operations on diagrams, at each leaf.
+//!
+//! `spd_apply` has the recursion behind all operations. A `Rule` says what it makes of two trees, and how that follows from trees
+//! below theirs (`plan`): a leaf, something below, or a test of two things below. A `Descent` is a rule that may also end in
+//! several nodes at once, which it makes by itself (`bottom`). `make_pair` views each root once and follows a rule with a memo;
+//! it is proved once, for each rule and each forest. An operation on one diagram takes it twice. `apply` and `map_leaves` are
+//! rules that go down to the leaves; `leaves_of` lists those, and `fits_leaves` and `maps_leaves` test whether an operation or a
+//! map is defined on them. docs/OPERATIONS.md shows how a rule is written. What a memo holds is said of trees: each answer's tree
+//! is what the rule makes of the pair's trees, whole or not.
 #![tactic(auto)]
 
 pub mod binary;

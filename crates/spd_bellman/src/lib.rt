@@ -1,7 +1,8 @@
 //! What a Bellman residual is worth: the bound for every state, every course of action and every number of steps.
 //!
-//! The functions carry laws about the definitions of `spd_model`. They take nothing, answer nothing and do nothing: each
-//! clause holds of every process, whether a program ever meets it or not.
+//! `spd_bellman` has no code that runs. Its public functions carry laws over the definitions: the rounded bounds enclose the
+//! exact expected return, a value whose policy and residual hold bounds every course of action in every number of steps, no value
+//! of any turn leaves its bound, and a run stops at the first turn at which its rule holds.
 #![tactic(auto)]
 
 ghost use Rattle.std.specs.Prelude.{Bool, All, ℕ, ◌^◌, ◌<◌, ◌≡◌, length, List, Contains, ℤ, pos, ◌*ℤ◌, ◌≤ℤ◌};

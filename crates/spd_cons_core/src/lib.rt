@@ -1,7 +1,7 @@
 //! The table machine: a table of nodes that several seats fill, one atomic step at a time.
 //!
-//! The machine is plain data, and an event is one atomic step of one seat. It says which steps the
-//! running table may take, and proves what holds between any two of them, whatever their order.
+//! `spd_cons_core` has the keys of diagram nodes, and the shared node table as a pure machine over plain lists: what each atomic
+//! step does, and the invariant that makes two entries with one key impossible (docs/TABLE.md).
 #![tactic(auto)]
 
 pub mod call_count;

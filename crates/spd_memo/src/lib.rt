@@ -1,4 +1,7 @@
 //! Tables of the answers of one operation on diagrams, by their two operands.
+//!
+//! `spd_memo` has `Memo`, which keeps the answers of one operation by pairs of Refs, the most recently used first, over `lru`.
+//! Its contracts say exactly which pairs stand in which order after a `get` and a `put`. It takes memory as it fills.
 #![tactic(auto)]
 
 ghost use Rattle.std.specs.Prelude.{◌≡◌, ℕ, ◌<◌, [], IfOk, OnOk, OnErr};

@@ -1,4 +1,10 @@
 //! The factored process as small trees, and the rules of the solver as definitions on plain tables.
+//!
+//! `spd_model` has the types of a process (`Model`, `Var`, `Action`, `Tree`, `State`, `Options`) and, in `specs/`, the
+//! definitions of everything that the solver computes, for any number of variables and for tables that follow the next values of
+//! later variables: docs/RULES.md is their reading. A `Model` keeps the invariant `IsLawful`: limits, names, and that its trees
+//! fit. `Model::value` follows a tree, `first_state` and `next_state` go through the states, `state_of` reads one from pairs. The
+//! contract with the crates above is the definitions themselves.
 #![tactic(auto)]
 
 mod options;

@@ -1,4 +1,10 @@
 //! Reduced test trees over the variables' present and next values, and the stores that hold each of them once.
+//!
+//! `spd_nodes` has `Layout`, which goes from variables and values to levels and back, and the trait `Forest`: a store of reduced
+//! test trees, each of them once. A `Ref` names one. To contracts a forest shows five things (`Shown`): the variables' sizes;
+//! which Refs it knows; the tree of each; which it published; whether it is full. Beside them it has what no call changes
+//! (`kept`), as the limit of an `Alone`, or the table and the splits of a store that threads share. A forest shows trees and no
+//! keys, so how a store numbers its nodes is left to it.
 #![tactic(auto)]
 
 pub mod alone;

@@ -1,4 +1,8 @@
 //! Value iteration over plain tables, with one entry for each state: the solver that the diagrams are compared with.
+//!
+//! `spd_plain` computes the definitions over tables with one entry for each state: `plain_solve` gives the stop turn, the value,
+//! the policy, the residual with its place, and the error of a model of at most 4,096 states; or the first count of states that
+//! passes that, the first sum of probabilities that isn't one, or the first reward that passes its limit.
 #![tactic(auto)]
 
 mod backup;

@@ -1,6 +1,8 @@
 //! Arithmetic of scaled numbers: whole numbers of a small unit, such as 10^-9 or 10^-12.
 //!
-//! Division is exact up to a stated rounding, and a number is printed with every digit of its unit.
+//! `spd_scaled` divides whole numbers rounding down or up, reads decimals into whole numbers of a unit, and prints a number of
+//! units. Its contracts give the exact value, and each text that it doesn't take has its cause. It carries the algebra of whole
+//! numbers (products, order, magnitudes) that every proof above uses.
 #![tactic(auto)]
 
 mod decimal;

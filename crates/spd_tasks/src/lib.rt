@@ -1,4 +1,7 @@
 //! Jobs that run beside each other on threads, and the gate that is told of them.
+//!
+//! `spd_tasks` runs jobs beside each other in std's threads (`run_jobs`): each job is afterwards as after one run. A `Gate` is
+//! told when a job begins and ends.
 #![tactic(auto)]
 
 ghost use Rattle.std.specs.Prelude.{◌≡◌, ℕ, ◌<◌, length, slice_index_or};

@@ -1,4 +1,7 @@
 //! The text of a result, written to a sink piece by piece, without memory.
+//!
+//! `spd_text` writes the text of a result to a sink, piece by piece, taking no memory: the text of the definitions, or a front of
+//! it where a write fails.
 #![tactic(auto)]
 
 mod names;
