@@ -5,6 +5,7 @@ ghost use Rattle.spd_nodes.specs.Levels.{levels_of, slots};
 ghost use Rattle.spd_nodes.specs.KnownTrees.{AllFitIn};
 
 use crate::filling::fill;
+use crate::meeting::make_leaves;
 use spd_cons::{Cons, Seat};
 use spd_nodes::{Grove, Layout};
 use std::marker::Brand;
@@ -112,18 +113,67 @@ fn eight_threads_make_a_million_nodes(rt: HostRuntime) -> Result<(), Fail> {
     Ok(())
 }
 
-/// The numbers below 500 make 500 leaves and 499 tests, since the test of number 0 has equal children.
+/// Makes the same thousand leaves in this thread and in so many more, each through a seat that is split off this one and joined
+/// again, where all came in each.
+fn make_beside<R: Threads + Sync>(
+    rt: &R,
+    cons: &Cons,
+    layout: &Layout,
+    seat: Seat,
+    helpers: u8,
+) -> FilledSeat
+    requires own { seat.table ≡ cons.now }
+    requires fit { AllFitIn (slots layout.now) seat.mind.knows }
+    requires few { helpers < 8 }
+    requires splits { helpers ≤ seat.mind.splits }
+    ensures table { result.seat.table ≡ cons.now }
+    ensures fit { AllFitIn (slots layout.now) result.seat.mind.knows }
+{
+    let mut seat = seat;
+    if helpers == 0 {
+        return make_own(cons, layout, seat);
+    }
+    let other = cons.split(&mut seat);
+    let fewer = helpers - 1;
+    let (mine, theirs) = thread::join(
+        rt,
+        || -> FilledSeat
+            requires { IsSync R.row × (seat.table ≡ cons.now) × AllFitIn (slots layout.now) seat.mind.knows × (fewer ≤ seat.mind.splits) × (fewer < 8) }
+            ensures { (result.seat.table ≡ cons.entry.now) × AllFitIn (slots layout.entry.now) result.seat.mind.knows }
+        { make_beside(rt, cons, layout, seat, fewer) },
+        || make_own(cons, layout, other),
+    );
+    let mut grove = Grove::new(cons, mine.seat, layout);
+    grove.join(Grove::new(cons, theirs.seat, layout));
+    let sum = theirs.sum;
+    FilledSeat {
+        seat: grove.seat(),
+        sum: mine.sum.filter(|mine| sum == Some(*mine)),
+    }
+}
+
+/// Makes a thousand leaves in one thread, with the number of those that came.
+fn make_own(cons: &Cons, layout: &Layout, seat: Seat) -> FilledSeat
+    requires own { seat.table ≡ cons.now }
+    requires fit { AllFitIn (slots layout.now) seat.mind.knows }
+    ensures table { result.seat.table ≡ cons.now }
+    ensures fit { AllFitIn (slots layout.now) result.seat.mind.knows }
+{
+    let mut grove = Grove::new(cons, seat, layout);
+    let came = make_leaves::<_, Brand>(&mut grove, Blank::new(1));
+    FilledSeat {
+        seat: grove.seat(),
+        sum: Some(u64::from(came)),
+    }
+}
+
 #[test]
-fn eight_threads_make_the_same_nodes(rt: HostRuntime) -> Result<(), Fail> {
+fn eight_threads_make_the_same_keys(rt: HostRuntime) -> Result<(), Fail> {
     let layout = Layout::new(rt.alloc(), &[2])?;
     let (cons, seat) = Cons::new(rt.alloc(), 1000, 8)?;
-    let work = Work {
-        common: 500,
-        own: 0,
-    };
-    let FilledSeat { seat, sum } = fill_beside(&rt, &cons, &layout, seat, work, 7);
-    assert!(rt; sum.is_some());
+    let FilledSeat { seat, sum } = make_beside(&rt, &cons, &layout, seat, 7);
+    assert_eq!(rt; sum, Some(1000));
     assert!(rt; cons.is_whole(&seat));
-    assert_eq!(rt; cons.made(seat), 999);
+    assert_eq!(rt; cons.made(seat), 1000);
     Ok(())
 }

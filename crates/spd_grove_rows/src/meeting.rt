@@ -20,7 +20,7 @@ struct Leaves<'a> {
 }
 
 /// How many of a thousand leaves come.
-fn make_leaves<F: Forest, L: Ledger>(forest: &mut F, blank: Blank) -> u16
+pub fn make_leaves<F: Forest, L: Ledger>(forest: &mut F, blank: Blank) -> u16
     requires name { blank.name ≡ L.name }
     requires parts { blank.parts ≡ L.parts }
     requires one { 0 < blank.parts }
