@@ -17,18 +17,18 @@ use Rattle.spd_model.proofs.CallerLemmas.Finds.{find_first}
 use Rattle.spd_model.proofs.CallerLemmas.Gaps.{has_gap}
 use Rattle.spd_model.proofs.CallerLemmas.StateOrder.{length-table_of, get_or-table_of, at-get_or}
 use Rattle.spd_plain.specs.declared.ranges.Bounds.{Bounds}
-use Rattle.spd_plain.specs.inner.Bounds.{range_of, IsSmall}
+use Rattle.spd_plain.specs.inner.Bounds.{range_of, AreSmallBounds}
 use Rattle.spd_plain.specs.inner.Sweeps.{action_on, AreLimited}
 
 -- the range of a state
 abbrev pub range_at : Process → (List ℕ → ℤ) → List ℕ → Range
 range_at m w s = record { low = best_low m w s; high = best_high m w s }
 
-small : (b : Bounds) → AreLimited b → IsSmall b
+small : (b : Bounds) → AreLimited b → AreSmallBounds b
 small b h = record { low = IsWithin_mono (pos value_limit) (pos (10 ^ 30)) b.low (omega (arith, ints)) h.low; high = IsWithin_mono (pos value_limit) (pos (10 ^ 30)) b.high (omega (arith, ints)) h.high }
 
-pub all_small : (ranges : List Bounds) → All AreLimited ranges → All IsSmall ranges
-all_small ranges h = All-weaker AreLimited IsSmall small ranges h
+pub all_small : (ranges : List Bounds) → All AreLimited ranges → All AreSmallBounds ranges
+all_small ranges h = All-weaker AreLimited AreSmallBounds small ranges h
 
 module _ (m : Process) (values : List ℤ) (ranges : List Bounds) (are : map range_of ranges ≡ ranges_of m (at (sizes m) values)) where
   pub length-ranges : length ranges ≡ state_count (sizes m)

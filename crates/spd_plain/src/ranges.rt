@@ -6,7 +6,7 @@
 ghost use Rattle.std.specs.Prelude.{◌≡◌, All, IfOk, map, pos, ◌≤ℤ◌, ◌^◌};
 ghost use Rattle.std.specs.List.Sorted.{IsStrictlySortedBy};
 ghost use Rattle.spd_model.specs.Ranges.{in_order, group_of, groups_of, middle_of, value_in, merged};
-ghost use Rattle.spd_plain.specs.inner.Bounds.{range_of, bounds_cmp, IsSmall};
+ghost use Rattle.spd_plain.specs.inner.Bounds.{range_of, bounds_cmp, AreSmallBounds};
 
 use spd_scaled::floor_div;
 use std::alloc::{AllocError, Global};
@@ -31,7 +31,7 @@ pub(crate) fn merge_ranges(
     ranges: &[Bounds],
     span: i128,
 ) -> Result<Vec<i128>, AllocError>
-    requires small { All IsSmall ranges.now }
+    requires small { All AreSmallBounds ranges.now }
     requires span_low { pos 0 ≤ℤ span }
     requires span_high { span ≤ℤ pos (10 ^ 30) }
     ensures { IfOk result (λ values. values.items ≡ merged span (map range_of ranges.now)) }
@@ -50,7 +50,7 @@ pub(crate) fn merge_ranges(
 fn distinct_ranges(alloc: Global, ranges: &[Bounds]) -> Result<Vec<Bounds>, AllocError>
     ensures items { IfOk result (λ distinct. map range_of distinct.items ≡ in_order (map range_of ranges.now)) }
     ensures ordered { IfOk result (λ distinct. IsStrictlySortedBy bounds_cmp distinct.items) }
-    ensures small { All IsSmall ranges.now → IfOk result (λ distinct. All IsSmall distinct.items) }
+    ensures small { All AreSmallBounds ranges.now → IfOk result (λ distinct. All AreSmallBounds distinct.items) }
 {
     let mut distinct = BTreeSet::new(alloc);
     for range in ranges {
@@ -61,7 +61,7 @@ fn distinct_ranges(alloc: Global, ranges: &[Bounds]) -> Result<Vec<Bounds>, Allo
 
 // The middle of its group for each of the ranges, which are distinct and in order.
 fn group_values(alloc: Global, distinct: &[Bounds], span: i128) -> Result<Vec<i128>, AllocError>
-    requires small { All IsSmall distinct.now }
+    requires small { All AreSmallBounds distinct.now }
     requires span_low { pos 0 ≤ℤ span }
     requires span_high { span ≤ℤ pos (10 ^ 30) }
     requires ordered { IsStrictlySortedBy bounds_cmp distinct.now }
@@ -89,7 +89,7 @@ fn group_values(alloc: Global, distinct: &[Bounds], span: i128) -> Result<Vec<i1
 
 // The middle of a range, rounded down.
 fn middle(range: Bounds) -> i128
-    requires { IsSmall range }
+    requires { AreSmallBounds range }
     ensures { result ≡ middle_of (group_of (range_of range)) }
 {
     floor_div(range.low + range.high, 2)
@@ -102,7 +102,7 @@ mod tests {
     const UNIT: i64 = 1_000_000_000;
 
     fn bounds(low: i64, high: i64) -> Bounds
-        ensures { IsSmall result }
+        ensures { AreSmallBounds result }
     {
         Bounds {
             low: i128::from(low),

@@ -17,7 +17,7 @@ use Rattle.spd_solver.specs.declared.small.trees.Role.TheVariants.{Table, Reward
 use Rattle.spd_solver.specs.SmallToken.{Token, opening, closing, word}
 use Rattle.spd_solver.specs.SmallSyntax.{Shape, ActionText, FileText, tokens_of_tree, tokens_of_action, tokens_of_file}
 use Rattle.spd_solver.specs.Small.{IsNumber, MeansTree, MeansActions, MeansFile}
-use Rattle.spd_solver.specs.inner.SmallReading.{◌>>=◌, closing_at, word_at, keyword_at, number_of, tree_at, are_distinct, words_step, words_at, variable_of, variable_at, action_of, action_at, begins_action, actions_step, actions_at, named_actions_at, discount_of, settings_at, file_at}
+use Rattle.spd_solver.specs.inner.SmallReading.{◌>>=◌, closing_at, word_at, keyword_at, read_number, tree_at, are_distinct, words_step, words_at, variable_of, variable_at, action_of, action_at, begins_action, actions_step, actions_at, named_actions_at, discount_of, settings_at, file_at}
 use Rattle.spd_solver.proofs.SmallSteps.{same_bytes, opening_again, closing_again, word_again, keyword_again}
 use Rattle.spd_solver.proofs.SmallNumberLaws.{not_zero, number_again}
 use Rattle.spd_solver.proofs.SmallTreesAgain.{IsApart, apart_first, distinct_rest, tree_again}
@@ -153,15 +153,15 @@ settings_again : (discount tolerance : List ℕ) (g t : ℕ) → IsNumber 6 6 di
 unfolding settings_at discount_of
 settings_again discount tolerance g t is below means =
     let last : List ℕ → List ℕ × List Token → Option (ℕ × ℕ) = λ discount tolerance.
-    discount_of discount >>= λ g. number_of 9 9 tolerance.0 >>= λ t. cond (eqb (length tolerance.1) 0) (Some (g, t)) None in
+    discount_of discount >>= λ g. read_number 9 9 tolerance.0 >>= λ t. cond (eqb (length tolerance.1) 0) (Some (g, t)) None in
     ap (λ (o : Option (List Token)). o >>= λ first. word_at first >>= λ discount. keyword_at (codes "tolerance") discount.1 >>= λ second. word_at second >>= last discount.0)
     (keyword_again (codes "discount") (word discount ∷ word (codes "tolerance") ∷ word tolerance ∷ []))
     ∙ ap (λ (o : Option (List ℕ × List Token)). o >>= λ discount. keyword_at (codes "tolerance") discount.1 >>= λ second. word_at second >>= last discount.0)
     (word_again discount (word (codes "tolerance") ∷ word tolerance ∷ []))
     ∙ ap (λ (o : Option (List Token)). o >>= λ second. word_at second >>= last discount) (keyword_again (codes "tolerance") (word tolerance ∷ []))
     ∙ ap (λ (o : Option (List ℕ × List Token)). o >>= last discount) (word_again tolerance [])
-    ∙ ap (λ (o : Option ℕ). (o >>= λ n. cond (ltb n 1000000) (Some n) None) >>= λ g. number_of 9 9 tolerance >>= λ t. Some (g, t)) (number_again 6 6 discount g is)
-    ∙ ap (λ (b : Bool). cond b (Some g) None >>= λ g. number_of 9 9 tolerance >>= λ t. Some (g, t)) (lt-ltb g 1000000 below)
+    ∙ ap (λ (o : Option ℕ). (o >>= λ n. cond (ltb n 1000000) (Some n) None) >>= λ g. read_number 9 9 tolerance >>= λ t. Some (g, t)) (number_again 6 6 discount g is)
+    ∙ ap (λ (b : Bool). cond b (Some g) None >>= λ g. read_number 9 9 tolerance >>= λ t. Some (g, t)) (lt-ltb g 1000000 below)
     ∙ ap (λ (o : Option ℕ). o >>= λ t. Some (g, t)) (number_again 9 9 tolerance t means)
 
 reward_no_action : (rest : List Token) → begins_action (word (codes "reward") ∷ rest) ≡ false

@@ -18,7 +18,7 @@ use Rattle.spd_solver.specs.declared.small.trees.Role.TheVariants.{Table, Reward
 use Rattle.spd_solver.specs.SmallToken.{Token, opening, closing, word}
 use Rattle.spd_solver.specs.SmallSyntax.{Shape, ActionText, FileText, tokens_of_tree, tokens_of_action, tokens_of_file}
 use Rattle.spd_solver.specs.Small.{IsNumber, MeansTree, MeansActions, MeansFile}
-use Rattle.spd_solver.specs.inner.SmallReading.{◌>>=◌, opening_at, closing_at, word_at, keyword_at, number_of, tree_at, are_distinct, words_step, words_at, variable_of, variable_at, action_of, action_at, begins_action, actions_step, actions_at, named_actions_at, discount_of, settings_at, file_at}
+use Rattle.spd_solver.specs.inner.SmallReading.{◌>>=◌, opening_at, closing_at, word_at, keyword_at, read_number, tree_at, are_distinct, words_step, words_at, variable_of, variable_at, action_of, action_at, begins_action, actions_step, actions_at, named_actions_at, discount_of, settings_at, file_at}
 use Rattle.std.proofs.lemmas.Bool.{or_parts}
 use Rattle.spd_solver.proofs.SmallSteps.{bind_some, guard_none, guard_some, same_bytes, opening_takes, closing_takes, word_takes, keyword_takes}
 use Rattle.spd_solver.proofs.SmallNumberLaws.{number_takes}
@@ -194,7 +194,7 @@ pub record TookSettings (tokens : List Token) (x : ℕ × ℕ) : Type 0 where
 discount_takes : (text : List ℕ) (n : ℕ) → discount_of text ≡ Some n → IsNumber 6 6 text n × (n < 1000000)
 unfolding discount_of
 discount_takes text n e =
-    let b = bind_some (number_of 6 6 text) (λ n. cond (ltb n 1000000) (Some n) None) n e in
+    let b = bind_some (read_number 6 6 text) (λ n. cond (ltb n 1000000) (Some n) None) n e in
     let g = guard_some (ltb b.0 1000000) (Some b.0) n b.2 in
     let same : b.0 ≡ n = cc in
     subst (λ (m : ℕ). IsNumber 6 6 text m × (m < 1000000)) same (number_takes 6 6 text b.0 b.1, ltb-true _ _ g.0)
@@ -203,13 +203,13 @@ pub settings_take : (tokens : List Token) (x : ℕ × ℕ) → settings_at token
 unfolding settings_at
 settings_take tokens x e =
     let last : List ℕ → List ℕ × List Token → Option (ℕ × ℕ) = λ discount tolerance.
-    discount_of discount >>= λ g. number_of 9 9 tolerance.0 >>= λ t. cond (eqb (length tolerance.1) 0) (Some (g, t)) None in
+    discount_of discount >>= λ g. read_number 9 9 tolerance.0 >>= λ t. cond (eqb (length tolerance.1) 0) (Some (g, t)) None in
     let k = bind_some (keyword_at (codes "discount") tokens) (λ first. word_at first >>= λ discount. keyword_at (codes "tolerance") discount.1 >>= λ second. word_at second >>= last discount.0) x e in
     let d = bind_some (word_at k.0) (λ discount. keyword_at (codes "tolerance") discount.1 >>= λ second. word_at second >>= last discount.0) x k.2 in
     let l = bind_some (keyword_at (codes "tolerance") d.0.1) (λ second. word_at second >>= last d.0.0) x d.2 in
     let t = bind_some (word_at l.0) (last d.0.0) x l.2 in
-    let g = bind_some (discount_of d.0.0) (λ g. number_of 9 9 t.0.0 >>= λ u. cond (eqb (length t.0.1) 0) (Some (g, u)) None) x t.2 in
-    let u = bind_some (number_of 9 9 t.0.0) (λ u. cond (eqb (length t.0.1) 0) (Some (g.0, u)) None) x g.2 in
+    let g = bind_some (discount_of d.0.0) (λ g. read_number 9 9 t.0.0 >>= λ u. cond (eqb (length t.0.1) 0) (Some (g, u)) None) x t.2 in
+    let u = bind_some (read_number 9 9 t.0.0) (λ u. cond (eqb (length t.0.1) 0) (Some (g.0, u)) None) x g.2 in
     let ended = guard_some (eqb (length t.0.1) 0) (Some (g.0, u.0)) x u.2 in
     let same : (g.0, u.0) ≡ x = cc in
     let nothing : t.0.1 ≡ [] = nil_from_length t.0.1 (eqb-true _ _ ended.0) in

@@ -10,7 +10,7 @@ use Rattle.std.proofs.lemmas.List.Folds.{list_all-append, prefix_len-append}
 use Rattle.std.proofs.lemmas.List.Quantifiers.{position-Some}
 use Rattle.std.proofs.lemmas.Bool.{ltb-false, leb-false, eqb-true, le-ltb, lt-ltb, lt-leb, and_parts}
 use Rattle.spd_solver.specs.Small.{IsNumber, with_point}
-use Rattle.spd_solver.specs.inner.SmallReading.{◌>>=◌, parts_step, parts_of, digits_of, scaled, number_of}
+use Rattle.spd_solver.specs.inner.SmallReading.{◌>>=◌, parts_step, number_parts, digits_of, scaled, read_number}
 use Rattle.std.proofs.lemmas.Bool.{or_parts}
 use Rattle.spd_solver.proofs.SmallSteps.{bind_some, guard_none, guard_some}
 
@@ -48,11 +48,11 @@ digits_take text n e =
     let g = guard_some (list_all is_ascii_digit text) (Some (digits_value 10 text)) n e in
     (g.0, cc)
 
-pub number_takes : (most places : ℕ) (text : List ℕ) (n : ℕ) → number_of most places text ≡ Some n → IsNumber most places text n
-unfolding number_of parts_of scaled
+pub number_takes : (most places : ℕ) (text : List ℕ) (n : ℕ) → read_number most places text ≡ Some n → IsNumber most places text n
+unfolding read_number number_parts scaled
 number_takes most places text n e =
     let test : List ℕ × List ℕ → Bool = λ parts. (eqb (length parts.0) 0 || ltb 9 (length parts.0)) || ltb most (length parts.1) in
-    let b = bind_some (parts_of text) (λ parts. cond (test parts) None (scaled places parts)) n e in
+    let b = bind_some (number_parts text) (λ parts. cond (test parts) None (scaled places parts)) n e in
     let whole = b.0.0 in
     let fraction = b.0.1 in
     let g = guard_none (test b.0) (scaled places b.0) n b.2 in
@@ -97,8 +97,8 @@ point_is : (text : List ℕ) (n : ℕ) → prefix_len no_point text ≡ n → (b
 point_is text n len b within =
     ap (λ (m : ℕ). cond (ltb m (length text)) (Some m) None) len ∙ ap (λ (t : Bool). cond t (Some n) None) within
 
-parts_again : (whole fraction : List ℕ) → list_all is_ascii_digit whole ≡ true → parts_of (whole ++ with_point fraction) ≡ Some (whole, fraction)
-unfolding parts_of
+parts_again : (whole fraction : List ℕ) → list_all is_ascii_digit whole ≡ true → number_parts (whole ++ with_point fraction) ≡ Some (whole, fraction)
+unfolding number_parts
 parts_again whole [] all =
     let none : position is_point whole ≡ None = point_is whole (length whole) (digits_pass whole all) false (le-ltb _ _ (omega arith)) in
     ap (λ (text : List ℕ). parts_step text (position is_point text)) (append-nil whole) ∙ ap (parts_step whole) none
@@ -124,11 +124,11 @@ within : (w f most : ℕ) → 0 < w → w ≤ 9 → f ≤ most → ((eqb w 0 || 
 within w f most some few short =
     ap (λ (t : Bool). (t || ltb 9 w) || ltb most f) (not_zero w (eqb w 0) refl some) ∙ ap (λ (t : Bool). t || ltb most f) (le-ltb 9 w few) ∙ le-ltb most f short
 
-pub number_again : (most places : ℕ) (text : List ℕ) (n : ℕ) → IsNumber most places text n → number_of most places text ≡ Some n
-unfolding number_of scaled digits_of
+pub number_again : (most places : ℕ) (text : List ℕ) (n : ℕ) → IsNumber most places text n → read_number most places text ≡ Some n
+unfolding read_number scaled digits_of
 number_again most places text n h =
     let all = and_parts (list_all is_ascii_digit h.whole) (list_all is_ascii_digit h.fraction) (sym (list_all-append is_ascii_digit h.whole h.fraction) ∙ h.digits) in
-    let parts : parts_of text ≡ Some (h.whole, h.fraction) = ap parts_of h.spelled ∙ parts_again h.whole h.fraction all.0 in
+    let parts : number_parts text ≡ Some (h.whole, h.fraction) = ap number_parts h.spelled ∙ parts_again h.whole h.fraction all.0 in
     let test : List ℕ × List ℕ → Bool = λ p. (eqb (length p.0) 0 || ltb 9 (length p.0)) || ltb most (length p.1) in
     let passes : test (h.whole, h.fraction) ≡ false = within (length h.whole) (length h.fraction) most h.begins h.whole_len h.fraction_len in
     ap (λ (o : Option (List ℕ × List ℕ)). o >>= λ p. cond (test p) None (scaled places p)) parts

@@ -5,7 +5,7 @@ use Rattle.spd_model.specs.Process.{Process}
 use Rattle.spd_model.specs.declared.tree.Tree.{Tree, Leaf, Branch}
 use Rattle.spd_solver.specs.SmallToken.{tokens_of}
 use Rattle.spd_solver.specs.Small.{IsSmall}
-use Rattle.spd_solver.specs.inner.SmallReading.{opening_at, closing_at, word_at, keyword_at, parts_of, digits_of, scaled, number_of, head_of, branch_at, filled, branches_at, all_of, inside_at, leaf_at, tree_at, are_distinct, words_at, variable_of, variable_at, action_of, action_at, actions_step, actions_at, named_actions_at, discount_of, settings_at, file_at}
+use Rattle.spd_solver.specs.inner.SmallReading.{opening_at, closing_at, word_at, keyword_at, number_parts, digits_of, scaled, read_number, head_of, branch_at, filled, branches_at, all_of, inside_at, leaf_at, tree_at, are_distinct, words_at, variable_of, variable_at, action_of, action_at, actions_step, actions_at, named_actions_at, discount_of, settings_at, file_at}
 use Rattle.spd_solver.proofs.SmallFilesTaken.{file_takes}
 
 abbrev stay_file : List ℕ
@@ -33,7 +33,7 @@ stay_process = record {
 }
 
 stay_read : file_at (tokens_of stay_file) ≡ Some stay_process
-unfolding tokens_of opening_at closing_at word_at keyword_at parts_of digits_of scaled number_of head_of branch_at filled branches_at all_of inside_at leaf_at tree_at are_distinct words_at variable_of variable_at action_of action_at actions_step actions_at named_actions_at discount_of settings_at file_at
+unfolding tokens_of opening_at closing_at word_at keyword_at number_parts digits_of scaled read_number head_of branch_at filled branches_at all_of inside_at leaf_at tree_at are_distinct words_at variable_of variable_at action_of action_at actions_step actions_at named_actions_at discount_of settings_at file_at
 stay_read = refl
 
 pub stay_is : IsSmall stay_file stay_process

@@ -49,27 +49,27 @@ unprimed_is word name some last =
 -- ---- the places of kids
 
 -- the kids before and those that the places give
-abbrev pub joined : List Tree → Option (List Tree) → Option (List Tree)
-joined front more = option_map (λ kids. front ++ kids) more
+abbrev pub followed : List Tree → Option (List Tree) → Option (List Tree)
+followed front more = option_map (λ kids. front ++ kids) more
 
 pub kids_more : (front : List Tree) (slots rest : List (Option Tree)) (kid : Tree) (total : Option (List Tree)) → slots ≡ Some kid ∷ rest
-    → joined front (all_of slots) ≡ total → joined (front ++ kid ∷ []) (all_of rest) ≡ total
+    → followed front (all_of slots) ≡ total → followed (front ++ kid ∷ []) (all_of rest) ≡ total
 unfolding all_of
-kids_more front slots rest kid total is so_far = one (all_of rest) ∙ ap (λ (s : List (Option Tree)). joined front (all_of s)) (sym is) ∙ so_far
+kids_more front slots rest kid total is so_far = one (all_of rest) ∙ ap (λ (s : List (Option Tree)). followed front (all_of s)) (sym is) ∙ so_far
   where
-    one : (more : Option (List Tree)) → joined (front ++ kid ∷ []) more ≡ joined front (elim more [ None ↦ None | Some kids ↦ Some (kid ∷ kids) ])
+    one : (more : Option (List Tree)) → followed (front ++ kid ∷ []) more ≡ followed front (elim more [ None ↦ None | Some kids ↦ Some (kid ∷ kids) ])
     one None = refl
     one (Some kids) = ap Some (append_assoc front (kid ∷ []) kids)
 
 pub kids_missing : (front : List Tree) (slots rest : List (Option Tree)) (total : Option (List Tree)) → slots ≡ None ∷ rest
-    → joined front (all_of slots) ≡ total → total ≡ None
+    → followed front (all_of slots) ≡ total → total ≡ None
 unfolding all_of
-kids_missing front slots rest total is so_far = sym so_far ∙ ap (λ (s : List (Option Tree)). joined front (all_of s)) is
+kids_missing front slots rest total is so_far = sym so_far ∙ ap (λ (s : List (Option Tree)). followed front (all_of s)) is
 
 pub kids_done : (front : List Tree) (slots : List (Option Tree)) (total : Option (List Tree)) → slots ≡ []
-    → joined front (all_of slots) ≡ total → total ≡ Some front
+    → followed front (all_of slots) ≡ total → total ≡ Some front
 unfolding all_of
-kids_done front slots total is so_far = sym so_far ∙ ap (λ (s : List (Option Tree)). joined front (all_of s)) is ∙ ap Some (append-nil front)
+kids_done front slots total is so_far = sym so_far ∙ ap (λ (s : List (Option Tree)). followed front (all_of s)) is ∙ ap Some (append-nil front)
 
 -- ---- the loop over branches
 

@@ -25,7 +25,7 @@ use Rattle.spd_solver.specs.declared.small.trees.Role.{Role}
 use Rattle.spd_solver.specs.declared.small.trees.Role.TheVariants.{Table, Reward}
 use Rattle.spd_solver.specs.SmallToken.{Token}
 use Rattle.spd_solver.specs.Small.{IsNumber, IsHead, most_digits, value_number}
-use Rattle.spd_solver.specs.inner.SmallReading.{◌>>=◌, opening_at, closing_at, word_at, number_of, head_of, branch_at, filled, branches_at, all_of, inside_at, leaf_at, tree_step, tree_at}
+use Rattle.spd_solver.specs.inner.SmallReading.{◌>>=◌, opening_at, closing_at, word_at, read_number, head_of, branch_at, filled, branches_at, all_of, inside_at, leaf_at, tree_step, tree_at}
 use Rattle.spd_solver.proofs.SmallSteps.{bind_some}
 use Rattle.spd_solver.proofs.SmallNumbers.{digit_is, units_bound}
 use Rattle.spd_solver.proofs.SmallNumberLaws.{number_takes}
@@ -204,7 +204,7 @@ module _ (role : Role) (m : Process) (var : Var) (some : 0 < length m.vars) (siz
   leaf_at-fits : (depth : ℕ) (head : List ℕ) (rest : List Token) (x : Tree × List Token) → leaf_at role head rest ≡ Some x → IsFit role m (suc depth) x.0
   unfolding leaf_at
   leaf_at-fits depth head rest x e =
-      let n = bind_some (number_of (most_digits role) 12 head) (λ n. Some (Leaf (pos n), rest)) x e in
+      let n = bind_some (read_number (most_digits role) 12 head) (λ n. Some (Leaf (pos n), rest)) x e in
       subst (λ (y : Tree × List Token). IsFit role m (suc depth) y.0) (same_Some (Leaf (pos n.0), rest) x n.2)
       (leaf_fits role m depth head n.0 (number_takes (most_digits role) 12 head n.0 n.1))
 

@@ -12,7 +12,7 @@ use Rattle.spd_solver.specs.declared.small.trees.Role.{Role}
 use Rattle.spd_solver.specs.SmallToken.{Token, opening, closing, word}
 use Rattle.spd_solver.specs.SmallSyntax.{Shape, number, choice, Branches, none, branch, tokens_of_tree, tokens_of_branches}
 use Rattle.spd_solver.specs.Small.{most_digits, value_number, named, MeansTree, MeansKids}
-use Rattle.spd_solver.specs.inner.SmallReading.{◌>>=◌, opening_at, closing_at, word_at, number_of, head_of, branch_at, fill_step, filled, branches_at, all_of, inside_at, leaf_at, tree_step, tree_at, are_distinct}
+use Rattle.spd_solver.specs.inner.SmallReading.{◌>>=◌, opening_at, closing_at, word_at, read_number, head_of, branch_at, fill_step, filled, branches_at, all_of, inside_at, leaf_at, tree_step, tree_at, are_distinct}
 use Rattle.std.proofs.lemmas.Bool.{or_parts, and_parts, not-true}
 use Rattle.spd_solver.proofs.SmallSteps.{bind_some, same_bytes, opening_takes, closing_takes, word_takes}
 use Rattle.spd_solver.proofs.SmallNumberLaws.{number_takes}
@@ -193,7 +193,7 @@ module _ (role : Role) (var : Var) where
       → leaf_at role head after ≡ Some x → (shape : Shape) × (tokens ≡ tokens_of_tree shape ++ x.1) × MeansTree role var (suc depth) shape x.0
   unfolding leaf_at
   leaf_takes depth tokens head after x written e =
-      let n = bind_some (number_of (most_digits role) 12 head) (λ n. Some (Leaf (pos n), after)) x e in
+      let n = bind_some (read_number (most_digits role) 12 head) (λ n. Some (Leaf (pos n), after)) x e in
       let same : (Leaf (pos n.0), after) ≡ x = cc in
       subst (λ (y : Tree × List Token). (shape : Shape) × (tokens ≡ tokens_of_tree shape ++ y.1) × MeansTree role var (suc depth) shape y.0) same
       (number head, written, (n.0, number_takes (most_digits role) 12 head n.0 n.1, refl))

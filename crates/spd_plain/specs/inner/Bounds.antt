@@ -15,6 +15,6 @@ abbrev pub bounds_cmp : Bounds → Bounds → Ordering
 bounds_cmp a b = ordering_then (int_cmp a.low b.low) (int_cmp a.high b.high)
 
 -- both bounds are at most 10^30 in magnitude
-pub record IsSmall (b : Bounds) : Type 0 where
+pub record AreSmallBounds (b : Bounds) : Type 0 where
   pub low : IsWithin (pos (10 ^ 30)) b.low
   pub high : IsWithin (pos (10 ^ 30)) b.high

@@ -63,8 +63,8 @@ abbrev pub parts_step : List ℕ → Option ℕ → Option (List ℕ × List ℕ
 parts_step text None = Some (text, [])
 parts_step text (Some at) = if nat_le (length text) (at + 1) then None else Some (take at text, drop (at + 1) text)
 
-unfoldable pub parts_of : List ℕ → Option (List ℕ × List ℕ)
-parts_of text = parts_step text (position (λ byte. byte == 46) text)
+unfoldable pub number_parts : List ℕ → Option (List ℕ × List ℕ)
+number_parts text = parts_step text (position (λ byte. byte == 46) text)
 
 unfoldable pub digits_of : List ℕ → Option ℕ
 digits_of text = if list_all is_ascii_digit text then Some (digits_value 10 text) else None
@@ -76,9 +76,9 @@ scaled places parts = do
   fraction ← digits_of parts.1
   Some (whole * 10 ^ places + fraction * 10 ^ (places - length parts.1))
 
-unfoldable pub number_of : ℕ → ℕ → List ℕ → Option ℕ
-number_of most places text = do
-  parts ← parts_of text
+unfoldable pub read_number : ℕ → ℕ → List ℕ → Option ℕ
+read_number most places text = do
+  parts ← number_parts text
   if length parts.0 == 0 || nat_lt 9 (length parts.0) || nat_lt most (length parts.1) then None else scaled places parts
 
 -- ---- trees
@@ -134,7 +134,7 @@ inside_at tree role var head tokens = do
 
 unfoldable pub leaf_at : Role → List ℕ → List Token → Option (Tree × List Token)
 leaf_at role head rest = do
-  n ← number_of (most_digits role) 12 head
+  n ← read_number (most_digits role) 12 head
   Some (Leaf (pos n), rest)
 
 -- a tree whose head is followed by the end of its brackets is a number, each other one has branches
@@ -219,7 +219,7 @@ named_actions_at var tokens = do
 -- the discount, which is below one
 unfoldable pub discount_of : List ℕ → Option ℕ
 discount_of text = do
-  n ← number_of 6 6 text
+  n ← read_number 6 6 text
   if nat_lt n 1000000 then Some n else None
 
 -- the discount and the tolerance, and then the end of the file
@@ -230,7 +230,7 @@ settings_at tokens = do
   second ← keyword_at (codes "tolerance") discount.1
   tolerance ← word_at second
   g ← discount_of discount.0
-  t ← number_of 9 9 tolerance.0
+  t ← read_number 9 9 tolerance.0
   if length tolerance.1 == 0 then Some (g, t) else None
 
 -- a whole file

@@ -10,7 +10,7 @@ ghost use Rattle.spd_solver.specs.inner.SmallReading.{Gives, are_distinct, words
 ghost use Rattle.spd_model.specs.Process.{Process};
 ghost use Rattle.spd_solver.specs.declared.small.unread.Unread.TheVariants.{Refused};
 ghost use Rattle.spd_solver.specs.Small.{IsSmall};
-ghost use Rattle.spd_solver.specs.inner.SmallContents.{process_of};
+ghost use Rattle.spd_solver.specs.inner.SmallContents.{small_process};
 
 use crate::small::lexer::{after_keyword, close, keyword, next_word, open, token_at, word};
 use crate::small::trees::{Role, TreeReader};
@@ -248,7 +248,7 @@ struct Contents {
 
 #[tactic(auto, unfolding(crate::specs::inner::SmallReading::file_at))]
 fn read_contents(alloc: Global, bytes: &[u8]) -> Result<Contents, Unread>
-    ensures value { Gives process_of result (file_at (tokens_of bytes.now)) }
+    ensures value { Gives small_process result (file_at (tokens_of bytes.now)) }
     ensures bound { IfOk result (λ x. x.tolerance < 10 ^ 25) }
 {
     let rest = open(bytes)?;

@@ -5,7 +5,7 @@ ghost use Rattle.std.specs.Str.{bytes_eq};
 ghost use Rattle.std.specs.List.{list_any, list_all, position};
 ghost use Rattle.std.specs.Char.{is_ascii_alphanumeric};
 ghost use Rattle.spd_model.specs.Names.{reserved_words, has_name_form, is_name, has_value_form, is_value_name};
-ghost use Rattle.spd_solver.specs.inner.SmallReading.{Gives, parts_of, digits_of, scaled, number_of};
+ghost use Rattle.spd_solver.specs.inner.SmallReading.{Gives, number_parts, digits_of, scaled, read_number};
 
 use crate::small::unread::Unread;
 use spd_model::Name;
@@ -104,9 +104,9 @@ fn point_in(word: &[u8]) -> Option<usize>
 }
 
 /// The digits before and behind the point of a number.
-#[tactic(auto, unfolding(crate::specs::inner::SmallReading::parts_of))]
+#[tactic(auto, unfolding(crate::specs::inner::SmallReading::number_parts))]
 fn parts(word: &[u8]) -> Result<(&[u8], &[u8]), Unread>
-    ensures { Gives (λ x. (x.0.now, x.1.now)) result (parts_of word.now) }
+    ensures { Gives (λ x. (x.0.now, x.1.now)) result (number_parts word.now) }
 {
     match point_in(word) {
         None => Ok((word, &[])),
@@ -137,11 +137,11 @@ fn digits(word: &[u8]) -> Result<u64, Unread>
 
 /// The number that the word writes, in units of 10^-places: 1 to 9 digits, and then perhaps a point
 /// and 1 to `most` digits.
-#[tactic(auto, unfolding(crate::specs::inner::SmallReading::number_of, crate::specs::inner::SmallReading::scaled))]
+#[tactic(auto, unfolding(crate::specs::inner::SmallReading::read_number, crate::specs::inner::SmallReading::scaled))]
 pub(crate) fn number(word: &[u8], most: usize, places: u32) -> Result<u128, Unread>
     requires places { places ≤ 12 }
     requires most { most ≤ places }
-    ensures value { Gives (λ n. n) result (number_of most places word.now) }
+    ensures value { Gives (λ n. n) result (read_number most places word.now) }
     ensures bound { IfOk result (λ n. n < 10 ^ 25) }
 {
     let (whole, fraction) = parts(word)?;

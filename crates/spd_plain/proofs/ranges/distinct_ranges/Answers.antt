@@ -7,7 +7,7 @@ use Rattle.std.proofs.lemmas.List.Elements.{All-get_or}
 use Rattle.std.proofs.lemmas.Map.Views.{All-insert_key}
 use Rattle.std.proofs.lemmas.Result.{IfOk-weaker}
 use Rattle.spd_model.specs.Ranges.{in_order}
-use Rattle.spd_plain.specs.inner.Bounds.{range_of, bounds_cmp, IsSmall}
+use Rattle.spd_plain.specs.inner.Bounds.{range_of, bounds_cmp, AreSmallBounds}
 use Rattle.spd_plain.proofs.RangeOrder.{map-insert_key, in_order_more}
 use Rattle.spd_plain.proofs.ranges.distinct_ranges.Goals as goal
 
@@ -16,8 +16,8 @@ loop-range-preserved c = record {
   items =
       ap (map range_of) c.in_ok-insert.ensures.keys ∙ map-insert_key c.loop-range.distinct.keys _
       ∙ in_order_more _ _ c.loop-range.range-index _ c.loop-range.invariant.items c.loop-range-test.true;
-  small = λ h. subst (All IsSmall) (sym c.in_ok-insert.ensures.keys)
-      (All-insert_key bounds_cmp _ IsSmall _ (c.loop-range.invariant.small h) (All-get_or IsSmall _ _ _ c.loop-range-test.true h));
+  small = λ h. subst (All AreSmallBounds) (sym c.in_ok-insert.ensures.keys)
+      (All-insert_key bounds_cmp _ AreSmallBounds _ (c.loop-range.invariant.small h) (All-get_or AreSmallBounds _ _ _ c.loop-range-test.true h));
 }
 
 -- the keys of the set
@@ -38,4 +38,4 @@ returns-clause-ordered c =
 
 pub returns-clause-small : goal.returns-clause-small
 returns-clause-small c h =
-    IfOk-weaker c.collect.result _ _ (λ v e. subst (All IsSmall) (sym e) (c.loop-range.invariant.small h)) (collected c)
+    IfOk-weaker c.collect.result _ _ (λ v e. subst (All AreSmallBounds) (sym e) (c.loop-range.invariant.small h)) (collected c)

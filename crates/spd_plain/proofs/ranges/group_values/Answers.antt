@@ -4,7 +4,7 @@ use Rattle.std.proofs.lemmas.Int.{ints, clamps, to_z-of_z}
 use Rattle.std.proofs.lemmas.List.Elements.{All-get_or}
 use mir.Syntax.{w128}
 use Rattle.spd_plain.specs.declared.ranges.Bounds.{Bounds}
-use Rattle.spd_plain.specs.inner.Bounds.{IsSmall}
+use Rattle.spd_plain.specs.inner.Bounds.{AreSmallBounds}
 use Rattle.spd_plain.proofs.GroupSweep.{swept_joins, swept_begins, swept_ends, swept_init, begun_below}
 use Rattle.spd_plain.proofs.ranges.group_values.Goals as goal
 use Rattle.spd_plain.proofs.ranges.group_values.Goals.{then-high-group, else-high-group+in_ok-resize}
@@ -15,7 +15,7 @@ loop-i-init c =
     let item = c.in-Some.ensures.item in
     record {
       below = rw none (omega arith);
-      small = rw item.1 (All-get_or IsSmall c.args.distinct.now 0 c.in-Some.first.now item.3.0 c.requires.small);
+      small = rw item.1 (All-get_or AreSmallBounds c.args.distinct.now 0 c.in-Some.first.now item.3.0 c.requires.small);
       swept = swept_init _ c.in-Some.first.now c.in_ok-values.values.items c.args.distinct.now none item.3.0 item.1 c.requires.ordered;
     }
 
@@ -23,7 +23,7 @@ pub loop-i-preserved : goal.loop-i-preserved
 loop-i-preserved c =
     let none : Bounds = record { low = pos 0; high = pos 0 } in
     let range : Bounds = get_or c.args.distinct.now c.loop-i.i none in
-    let small : IsSmall range = All-get_or IsSmall c.args.distinct.now c.loop-i.i none c.loop-i-test.true c.requires.small in
+    let small : AreSmallBounds range = All-get_or AreSmallBounds c.args.distinct.now c.loop-i.i none c.loop-i-test.true c.requires.small in
     let low : FitsSigned w128 c.loop-i.group.low = search rules in
     let high : FitsSigned w128 c.loop-i.group.high = search rules in
     let top : FitsSigned w128 range.high = search rules in
