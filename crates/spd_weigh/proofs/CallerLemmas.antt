@@ -1,0 +1,1 @@
+-- For crates above: what tables of sums and of discounts hold.
