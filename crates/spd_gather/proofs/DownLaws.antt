@@ -60,9 +60,10 @@ stands-half ds l (Tests k y n) h = go (cases_order k l)
   where
     at : Splits ds k (Tests k y n) → k ≡ l → Stands ds (l + 1) (yes_at l (Tests k y n)) × Stands ds (l + 1) (no_at l (Tests k y n))
     at s e = subst (λ j. Stands ds (j + 1) (yes_at j (Tests k y n)) × Stands ds (j + 1) (no_at j (Tests k y n))) e (
-        let b : k < after ds k = after_above ds k (level_of-reduced ds k y n h.0) in
-        ((s.yes_reduced, not-before-from ds (k + 1) (after ds k) _ (omega arith) s.yes_from),
-        (s.no_reduced, elim s.no_fits [ inl f ↦ not-before-from ds (k + 1) (after ds k) _ (omega arith) f | inr f ↦ not-before-at (k + 1) _ f.0 ])))
+        let b : k < after ds k = after_above ds k (level_of-reduced ds k y n h.0) in (
+          (s.yes_reduced, not-before-from ds (k + 1) (after ds k) _ (omega arith) s.yes_from),
+          (s.no_reduced, elim s.no_fits [ inl f ↦ not-before-from ds (k + 1) (after ds k) _ (omega arith) f | inr f ↦ not-before-at (k + 1) _ f.0 ]),
+        ))
 
     go : (k ≡ l) ⊎ (k < l) ⊎ (l < k) → Stands ds (l + 1) (yes_at l (Tests k y n)) × Stands ds (l + 1) (no_at l (Tests k y n))
     go (inl e) = at (splits-at ds k y n h.0) e
@@ -171,9 +172,9 @@ module _ (ds : List ℕ) (stop : ℕ) (bottom : Making) (d : EndsAt ds stop bott
   step-whole : (n l : ℕ) → suc n + l ≡ stop → Good n (l + 1) → (e : ℕ) (ts : List Tree) → e ≤ stop → Each (Stands ds l) ts → Each (IsFrom ds 0 e) ts
       → IsReduced ds 0 (down bottom (suc n) l ts) × IsFrom ds 0 e (down bottom (suc n) l ts)
   step-whole n l q g e ts i h f = elim (past-or-at l ts (each-weaker (Stands ds l) (IsNotBefore l) (λ t s. s.1) ts h)) [
-      | inl p ↦ rw (down-past bottom n l ts p) (g.whole e ts i (each-both (IsReduced ds 0) (IsNotBefore (l + 1)) ts (each-weaker (Stands ds l) (IsReduced ds 0) (λ t s. s.0) ts h) p) f)
-      | inr found ↦ one (found (IsFrom ds 0 e) f)
-    ]
+    | inl p ↦ rw (down-past bottom n l ts p) (g.whole e ts i (each-both (IsReduced ds 0) (IsNotBefore (l + 1)) ts (each-weaker (Stands ds l) (IsReduced ds 0) (λ t s. s.0) ts h) p) f)
+    | inr found ↦ one (found (IsFrom ds 0 e) f)
+  ]
     where
       b : l < stop
       b = omega arith

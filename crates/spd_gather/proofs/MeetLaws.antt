@@ -5,13 +5,13 @@ use Rattle.std.proofs.lemmas.Bool.Decides.{nat_tests}
 use Rattle.spd_nodes.specs.declared.leaf.Leaf.{Leaf}
 use Rattle.spd_nodes.specs.declared.leaf.Leaf.TheVariants.{Act}
 use Rattle.spd_nodes.specs.Levels.{levels_of, after}
-use Rattle.spd_nodes.specs.Trees.{Tree, Ends, Tests, IsFrom, IsAt, IsReduced, IsAtOrPast, CanTest, join, tree_rank}
+use Rattle.spd_nodes.specs.Trees.{Tree, Ends, Tests, IsFrom, IsAt, IsReduced, IsAtOrPast, tree_rank}
 use Rattle.spd_nodes.proofs.CallerLemmas.{after_above, after_le, at-from, level_of-reduced}
 use Rattle.spd_apply.specs.Halves.{yes_at, no_at, IsNotBefore}
 use Rattle.spd_apply.proofs.CallerLemmas.{Splits, half-no, half-yes}
-use Rattle.spd_gather.specs.Down.{Each, down, Stands, FitsAt, at_leaves, at_each_leaf}
-use Rattle.spd_gather.specs.Meeting.{MeetWhole, MeetAt, Meet, OneAt, IsLowest, list_rank}
-use Rattle.spd_gather.proofs.DownLaws.{each-map, each-weaker, each-both, fits-of, splits, no-fits, no-from, halves, leaves-end}
+use Rattle.spd_gather.specs.Down.{Each, Stands, FitsAt, at_leaves}
+use Rattle.spd_gather.specs.Meeting.{Meet, OneAt, IsLowest, list_rank}
+use Rattle.spd_gather.proofs.DownLaws.{each-map, each-weaker, each-both, fits-of, splits, no-fits, no-from, leaves-end}
 
 -- a tree that tests the level, with what holds of each
 pub record Found (P : Tree → Type 0) (l : ℕ) : Type 0 where

@@ -1,7 +1,8 @@
 -- The rows of places that are laid end to end.
-use Rattle.std.proofs.Common.{◌≡◌, ◌⊎◌, inl, inr, ℕ, zero, suc, ◌+◌, ◌*◌, ◌-◌, ◌<◌, ◌≤◌, List, [], ◌∷◌, ◌++◌, Option, None, Some, length, take, drop, get_or, set, refl, sym, ◌∙◌, ap, subst, arith, length-take, length-drop, length-append}
+use Rattle.std.proofs.Common.{◌≡◌, ◌⊎◌, inl, inr, ℕ, zero, suc, ◌+◌, ◌*◌, ◌<◌, ◌≤◌, List, [], ◌∷◌, ◌++◌, Option, None, Some, All, length, take, drop, get_or, set, refl, sym, ◌∙◌, ap, subst, arith, length-take, length-drop}
 use Rattle.std.specs.Prelude.{Contains}
-use Rattle.std.proofs.lemmas.List.{drop-drop, take_at, drop_at, take-append-le, drop-append-le, take-take, drop-take, length-take-le}
+use Rattle.std.proofs.lemmas.List.Elements.{All-head, All-tail}
+use Rattle.std.proofs.lemmas.List.{drop-drop, take_at, drop_at, take-append-le, drop-append-le, take-take, drop-take}
 use Rattle.spd_cons_core.specs.declared.key.Entry.{Entry}
 use Rattle.spd_gather.specs.Rows.{Row, rows_of}
 
@@ -23,7 +24,8 @@ row-at width keys (None ∷ answers) zero r h e = absurd (cc e)
 row-at width keys (Some q ∷ answers) zero r h e =
     let z : 0 * width ≡ 0 = omega arith in
     let same : q ≡ r = cc in
-    rw (z, same) (Contains-here (take width keys, r) (rows_of width (drop width keys) answers))
+    subst (λ (x : Entry). Contains (rows_of width keys (Some q ∷ answers)) (take width (drop (0 * width) keys), x)) same
+    (rw z (Contains-here (take width keys, q) (rows_of width (drop width keys) answers)))
 row-at width keys (None ∷ answers) (suc at) r h e =
     let z : suc at * width ≡ width + at * width = omega arith in
     let step : drop (width + at * width) keys ≡ drop (at * width) (drop width keys) = sym (drop-drop (at * width) width keys) in
@@ -48,13 +50,23 @@ written-later list keys from b =
     let step : drop (length list + from) keys ≡ drop from (drop (length list) keys) = sym (drop-drop from (length list) keys) in
     drop-append-le (length list) (take (length list + from) keys) _ room ∙ rw (drop-take (length list) from keys, step) refl
 
+times-le : (a b k : ℕ) → a ≤ b → a * k ≤ b * k
+times-le a b k h = grind arith
+
 -- a row after a write is one before it, or what was written
 pub row-written : (list keys : List Entry) (answers : List (Option Entry)) (at : ℕ) (r : Entry) → at < length answers → length keys ≡ length answers * length list → (row : Row)
     → Contains (rows_of (length list) (written (at * length list) list keys) (set answers at (Some r))) row → Contains (rows_of (length list) keys answers) row ⊎ (row ≡ (list, r))
 row-written list keys [] at r h e row m = absurd (omega (arith, h))
 row-written list keys (a ∷ answers) zero r h e row m =
     let z : 0 * length list ≡ 0 = omega arith in
-    let n = rw (z, take_at list (drop (length list) keys) (length list) refl, drop_at list (drop (length list) keys) (length list) refl) at m in
+    let d = drop (length list) keys in
+    let whole : written (0 * length list) list keys ≡ list ++ d = rw z refl in
+    let front : take (length list) (list ++ d) ≡ list = take_at list d (length list) refl in
+    let back : drop (length list) (list ++ d) ≡ d = drop_at list d (length list) refl in
+    let n : Contains ((list, r) ∷ rows_of (length list) d answers) row =
+    subst (λ (p : List Entry). Contains ((p, r) ∷ rows_of (length list) d answers) row) front
+    (subst (λ (p : List Entry). Contains ((take (length list) (list ++ d), r) ∷ rows_of (length list) p answers) row) back
+    (subst (λ (ks : List Entry). Contains (rows_of (length list) ks (Some r ∷ answers)) row) whole m)) in
     elim (Contains-cases row (list, r) (rows_of (length list) (drop (length list) keys) answers) n) [
       | inl b ↦ inr b
       | inr b ↦ inl (more a b)
@@ -64,23 +76,62 @@ row-written list keys (a ∷ answers) zero r h e row m =
     more None b = b
     more (Some q) b = Contains-later row (take (length list) keys, q) _ b
 row-written list keys (None ∷ answers) (suc at) r h e row m =
-    let z : suc at * length list ≡ length list + at * length list = omega arith in
-    let fits : at * length list ≤ length answers * length list = grind (arith) in
-    let y : suc (length answers) * length list ≡ length list + length answers * length list = omega arith in
-    let room : length list + at * length list ≤ length keys = omega arith in
-    let rest : length (drop (length list) keys) ≡ length answers * length list = omega (arith, length-drop (length list) keys) in
-    row-written list (drop (length list) keys) answers at r (omega (arith, h)) rest row (rw (z, written-later list keys (at * length list) room) at m)
+    let n = length list in
+    let z : suc at * n ≡ n + at * n = omega arith in
+    let fits : at * n ≤ length answers * n = times-le at (length answers) n (omega (arith, h)) in
+    let y : suc (length answers) * n ≡ n + length answers * n = omega arith in
+    let room : n + at * n ≤ length keys = omega arith in
+    let rest : length (drop n keys) ≡ length answers * n = omega (arith, length-drop n keys) in
+    let back : drop n (written (suc at * n) list keys) ≡ written (at * n) list (drop n keys) = ap (λ j. drop n (written j list keys)) z ∙ written-later list keys (at * n) room in
+    row-written list (drop n keys) answers at r (omega (arith, h)) rest row (subst (λ (ks : List Entry). Contains (rows_of n ks (set answers at (Some r))) row) back m)
 row-written list keys (Some q ∷ answers) (suc at) r h e row m =
-    let z : suc at * length list ≡ length list + at * length list = omega arith in
-    let fits : at * length list ≤ length answers * length list = grind (arith) in
-    let y : suc (length answers) * length list ≡ length list + length answers * length list = omega arith in
-    let room : length list + at * length list ≤ length keys = omega arith in
-    let rest : length (drop (length list) keys) ≡ length answers * length list = omega (arith, length-drop (length list) keys) in
-    let n = rw (z, written-later list keys (at * length list) room, written-first list keys (length list + at * length list) (omega arith) room) at m in
-    elim (Contains-cases row (take (length list) keys, q) _ n) [
-      | inl b ↦ inl (rw b (Contains-here (take (length list) keys, q) (rows_of (length list) (drop (length list) keys) answers)))
-      | inr b ↦ elim (row-written list (drop (length list) keys) answers at r (omega (arith, h)) rest row b) [
-        | inl c ↦ inl (Contains-later row (take (length list) keys, q) _ c)
+    let n = length list in
+    let z : suc at * n ≡ n + at * n = omega arith in
+    let fits : at * n ≤ length answers * n = times-le at (length answers) n (omega (arith, h)) in
+    let y : suc (length answers) * n ≡ n + length answers * n = omega arith in
+    let room : n + at * n ≤ length keys = omega arith in
+    let rest : length (drop n keys) ≡ length answers * n = omega (arith, length-drop n keys) in
+    let back : drop n (written (suc at * n) list keys) ≡ written (at * n) list (drop n keys) = ap (λ j. drop n (written j list keys)) z ∙ written-later list keys (at * n) room in
+    let front : take n (written (suc at * n) list keys) ≡ take n keys = ap (λ j. take n (written j list keys)) z ∙ written-first list keys (n + at * n) (omega arith) room in
+    let w : Contains ((take n keys, q) ∷ rows_of n (written (at * n) list (drop n keys)) (set answers at (Some r))) row =
+    subst (λ (p : List Entry). Contains ((p, q) ∷ rows_of n (written (at * n) list (drop n keys)) (set answers at (Some r))) row) front
+    (subst (λ (ks : List Entry). Contains ((take n (written (suc at * n) list keys), q) ∷ rows_of n ks (set answers at (Some r))) row) back m) in
+    elim (Contains-cases row (take n keys, q) _ w) [
+      | inl b ↦ inl (subst (λ (x : Row). Contains ((take n keys, q) ∷ rows_of n (drop n keys) answers) x) (sym b) (Contains-here (take n keys, q) (rows_of n (drop n keys) answers)))
+      | inr b ↦ elim (row-written list (drop n keys) answers at r (omega (arith, h)) rest row b) [
+        | inl c ↦ inl (Contains-later row (take n keys, q) _ c)
         | inr c ↦ inr c
       ]
+    ]
+
+-- empty places have no row
+pub rows-none : (width : ℕ) (keys : List Entry) (answers : List (Option Entry)) → All (λ place. place ≡ None) answers → rows_of width keys answers ≡ []
+rows-none width keys [] h = refl
+rows-none width keys (None ∷ answers) h = rows-none width (drop width keys) answers (All-tail (λ place. place ≡ None) None answers h)
+rows-none width keys (Some r ∷ answers) h = absurd (cc (All-head (λ place. place ≡ None) (Some r) answers h))
+
+-- inside a list it doesn't matter what stands for what isn't there
+get_or-inside : (xs : List (Option Entry)) (i : ℕ) (x y : Option Entry) → i < length xs → get_or xs i x ≡ get_or xs i y
+get_or-inside [] i x y h = absurd (omega arith)
+get_or-inside (z ∷ xs) zero x y h = refl
+get_or-inside (z ∷ xs) (suc i) x y h = get_or-inside xs i x y (omega arith)
+
+-- what a look-up finds is a row of what the table shows
+pub row-found : (width : ℕ) (keys : List Entry) (answers : List (Option Entry)) (rows : List Row) (at : ℕ) (x : Option Entry) (list : List Entry) (r : Entry) → rows_of width keys answers ≡ rows → at < length answers
+    → x ≡ get_or answers at x → x ≡ Some r → take width (drop (at * width) keys) ≡ list → Contains rows (list, r)
+row-found width keys answers rows at x list r view near read some key =
+    subst (λ (l : List Row). Contains l (list, r)) view
+    (subst (λ (p : List Entry). Contains (rows_of width keys answers) (p, r)) key
+    (row-at width keys answers at r near (get_or-inside answers at None x near ∙ sym read ∙ some)))
+
+-- what a write leaves of what the table shows
+pub rows-write : (width : ℕ) (list keys new : List Entry) (answers : List (Option Entry)) (rows : List Row) (at : ℕ) (r : Entry) → length list ≡ width → at < length answers → length keys ≡ length answers * width
+    → new ≡ written (at * length list) list keys → rows_of width keys answers ≡ rows → (row : Row) → Contains (rows_of width new (set answers at (Some r))) row → Contains rows row ⊎ (row ≡ (list, r))
+rows-write width list keys new answers rows at r same near count is view row m =
+    let m' : Contains (rows_of (length list) (written (at * length list) list keys) (set answers at (Some r))) row =
+    subst (λ (n : ℕ). Contains (rows_of n (written (at * length list) list keys) (set answers at (Some r))) row) (sym same)
+    (subst (λ (ks : List Entry). Contains (rows_of width ks (set answers at (Some r))) row) is m) in
+    elim (row-written list keys answers at r near (count ∙ ap (λ n. length answers * n) (sym same)) row m') [
+      | inl b ↦ inl (subst (λ (l : List Row). Contains l row) (ap (λ n. rows_of n keys answers) same ∙ view) b)
+      | inr b ↦ inr b
     ]

@@ -1,5 +1,5 @@
 -- Which lists of trees may be met, and their lowest level.
-use Rattle.std.specs.Prelude.{◌≡◌, ℕ, ◌<◌, ◌≤◌, ◌⊎◌, List, [], ◌∷◌, max}
+use Rattle.std.specs.Prelude.{ℕ, ◌<◌, ◌≤◌, ◌⊎◌, List, [], ◌∷◌, max}
 use Rattle.spd_nodes.specs.Levels.{levels_of}
 use Rattle.spd_nodes.specs.Trees.{Tree, IsFrom, IsAt, IsAtOrPast, tree_rank}
 use Rattle.spd_apply.specs.Halves.{IsNotBefore}

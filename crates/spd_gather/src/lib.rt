@@ -15,6 +15,3 @@ pub use halves::{halves_of, lowest_level};
 pub use make::make_list;
 pub use rule::{ListPlan, ListRule};
 pub use table::Table;
-
-
-

@@ -22,7 +22,14 @@ fn recall<F: Forest, R: ListRule>(forest: &F, rule: &R, list: &[Ref], table: &Ta
 
 /// Keeps an answer.
 #[tactic(auto, using(crate::proofs::RowLaws::row_laws))]
-fn keep<F: Forest, R: ListRule>(alloc: Global, forest: &F, rule: &R, list: &[Ref], r: Ref, table: &mut Table)
+fn keep<F: Forest, R: ListRule>(
+    alloc: Global,
+    forest: &F,
+    rule: &R,
+    list: &[Ref],
+    r: Ref,
+    table: &mut Table,
+)
     requires table { HoldsRows (R.making rule.now) (F.shows forest.now) table.old }
     requires answer { IsListAnswer (R.making rule.now) (F.shows forest.now) list.now r }
     ensures { HoldsRows (R.making rule.now) (F.shows forest.now) table.new }

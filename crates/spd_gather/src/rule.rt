@@ -45,7 +45,12 @@ pub trait ListRule {
         ensures known { IfSome result (λ r. KnowsAs (F.shows forest.old) r (making self.now (trees_of (F.shows forest.old) list.now))) };
 
     /// How it goes on from a list. It fails only for want of memory.
-    fn plan<F: Forest>(&self, alloc: Global, forest: &mut F, list: &[Ref]) -> Result<ListPlan, AllocError>
+    fn plan<F: Forest>(
+        &self,
+        alloc: Global,
+        forest: &mut F,
+        list: &[Ref],
+    ) -> Result<ListPlan, AllocError>
         requires sound { IsSound (F.shows forest.old) }
         requires met { AreMet (may self.now (F.shows forest.old).sizes) (F.shows forest.old) list.now }
         ensures same { F.shows forest.new ≡ F.shows forest.old }
@@ -53,7 +58,12 @@ pub trait ListRule {
         ensures plan { IfOk result (λ p. IsListPlan (making self.now) (may self.now (F.shows forest.old).sizes) (ends self.now (F.shows forest.old).sizes) (F.shows forest.old) list.now p) };
 
     /// What it makes of a list from which it goes no further.
-    fn bottom<F: Forest, L: Ledger>(&self, forest: &mut F, list: &[Ref], steps: &mut Steps<L>) -> Result<Ref, OpFault>
+    fn bottom<F: Forest, L: Ledger>(
+        &self,
+        forest: &mut F,
+        list: &[Ref],
+        steps: &mut Steps<L>,
+    ) -> Result<Ref, OpFault>
         requires sound { IsSound (F.shows forest.old) }
         requires met { AreMet (may self.now (F.shows forest.old).sizes) (F.shows forest.old) list.now }
         requires ends { ends self.now (F.shows forest.old).sizes (trees_of (F.shows forest.old) list.now) }

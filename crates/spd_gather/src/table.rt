@@ -91,7 +91,12 @@ impl Table {
     }
 
     /// A table of so many empty places.
-    fn with_places(alloc: Global, width: usize, most: usize, places: usize) -> Result<Table, AllocError>
+    fn with_places(
+        alloc: Global,
+        width: usize,
+        most: usize,
+        places: usize,
+    ) -> Result<Table, AllocError>
         ensures { IfOk result (λ t. t ≡ []) }
     {
         let cells = places.checked_mul(width).ok_or(AllocError)?;
@@ -142,9 +147,9 @@ impl Table {
         if list.len() != self.width || at >= self.answers.len() {
             return;
         }
-        if self.answers[at].is_none() {
-            self.filled = self.filled.saturating_add(1);
-        }
+        self.filled = self
+            .filled
+            .saturating_add(self.answers[at].is_none() as usize);
         write_at(&mut self.keys, list, at);
         self.answers[at] = Some(r);
     }
@@ -157,8 +162,16 @@ impl Table {
         if places >= self.most || self.filled < places / 2 {
             return;
         }
-        let more = if self.most / 2 <= places { self.most } else { places * 2 };
-        let more = if more < FIRST_PLACES && FIRST_PLACES <= self.most { FIRST_PLACES } else { more };
+        let more = if self.most / 2 <= places {
+            self.most
+        } else {
+            places * 2
+        };
+        let more = if more < FIRST_PLACES && FIRST_PLACES <= self.most {
+            FIRST_PLACES
+        } else {
+            more
+        };
         if let Ok(mut table) = Table::with_places(alloc, self.width, self.most, more) {
             table.take_over(self);
             *self = table;

@@ -1,4 +1,4 @@
-use Rattle.std.proofs.Common.{rules, ◌≡◌, take, refl}
+use Rattle.std.proofs.Common.{rules}
 use Rattle.spd_gather.proofs.LowLaws.{low-more}
 use Rattle.spd_gather.proofs.halves.lowest_level.Goals as goal
 
