@@ -1,12 +1,10 @@
 -- Where a sum ends early: zero weights fall out, and one value that is left is the sum.
-use Rattle.std.proofs.Common.{◌≡◌, ℕ, zero, suc, ◌+◌, ◌-◌, ◌*◌, ◌/◌, ◌<◌, ◌≤◌, ◌⊎◌, inl, inr, ◌==◌, ◌&&◌, ◌||◌, Bool, true, false, cond, List, [], ◌∷◌, map, length, set, get_or, refl, sym, ◌∙◌, ap, subst, arith, ℤ, pos, ◌+ℤ◌, ◌*ℤ◌, ◌<ℤ◌}
-use Rattle.std.specs.Ordering.{int_eq}
+use Rattle.std.proofs.Common.{◌≡◌, ℕ, zero, suc, ◌+◌, ◌-◌, ◌*◌, ◌/◌, ◌<◌, ◌≤◌, ◌⊎◌, inl, inr, ◌||◌, Bool, true, false, cond, List, [], ◌∷◌, map, length, set, get_or, drop, refl, sym, ◌∙◌, ap, subst, arith, ℤ, pos, ◌+ℤ◌, ◌*ℤ◌, ◌<ℤ◌}
 use Rattle.std.proofs.lemmas.Bool.{and_parts}
 use Rattle.std.proofs.lemmas.Bool.Decides.{Decides-int_eq}
 use Rattle.std.proofs.lemmas.Int.{ints}
 use Rattle.spd_scaled.proofs.CallerLemmas.Ring.{*ℤ_comm, +ℤ-*ℤ, zero-*ℤ}
 use Rattle.spd_scaled.proofs.CallerLemmas.DivisionLaws.{ceil_div_unique, floor_div_unique}
-use Rattle.spd_scaled.specs.Scaled.{floor_div, ceil_div}
 use Rattle.spd_model.specs.Chances.{one}
 use Rattle.spd_nodes.specs.declared.leaf.Leaf.{Leaf}
 use Rattle.spd_nodes.specs.declared.leaf.Leaf.TheVariants.{Num, Pair, Act}
@@ -16,7 +14,10 @@ use Rattle.spd_nodes.proofs.CallerLemmas.{level_of-reduced}
 use Rattle.spd_apply.specs.Halves.{yes_at, no_at, IsNotBefore}
 use Rattle.spd_apply.proofs.CallerLemmas.{join-ends, not-before-lower}
 use Rattle.spd_restrict.specs.Restricted.{cofactored}
-use Rattle.spd_gather.specs.Down.{Each, Making, down, Stands, last_leaf, at_leaves, at_each_leaf}
+use Rattle.spd_gather.specs.Down.{Each, down, Stands, last_leaf, at_leaves, at_each_leaf}
+use Rattle.spd_cons_core.specs.declared.key.Entry.{Entry}
+use Rattle.spd_nodes.specs.Shown.{Shown}
+use Rattle.spd_gather.specs.Lists.{trees_of}
 use Rattle.spd_gather.specs.Meeting.{list_rank}
 use Rattle.spd_gather.proofs.CallerLemmas.{down-is, down-same, half-none}
 use Rattle.spd_weigh.specs.declared.way.Way.{Way}
@@ -262,8 +263,7 @@ each-like P z (w ∷ t ∷ ts) [] h a = absurd h
 each-like P z (w ∷ t ∷ ts) (v ∷ []) h a = absurd h
 each-like P z (w ∷ t ∷ ts) (v ∷ g ∷ us) h a = (
   subst P (sym h.0) a.0,
-  elim h.1 [ inl q ↦ subst P (sym q) a.1.0 | inr q ↦ subst P (sym q.1) z ],
-  each-like P z ts us h.2 a.1.1,
+  (elim h.1 [ inl q ↦ subst P (sym q) a.1.0 | inr q ↦ subst P (sym q.1) z ], each-like P z ts us h.2 a.1.1),
 )
 
 pub length-like : (ts us : List Tree) → IsLike ts us → length us ≡ length ts
@@ -293,17 +293,37 @@ like-same (w ∷ []) = refl
 like-same (w ∷ t ∷ ts) = (refl, inl refl, like-same ts)
 
 -- and like it stays where a weight of 0 is put in the place of its value
-pub like-set : (ts us : List Tree) (v : ℕ) (d : Tree) → IsLike ts us → 2 * v + 1 < length us → get_or us (2 * v) d ≡ zero_tree → IsLike ts (set us (2 * v + 1) (get_or us (2 * v) d))
-like-set [] us v d h b z = absurd (omega (arith, b, ap length h))
-like-set (w ∷ []) us v d h b z = absurd (omega (arith, b, ap length h))
-like-set (w ∷ t ∷ ts) [] v d h b z = absurd h
-like-set (w ∷ t ∷ ts) (x ∷ []) v d h b z = absurd h
-like-set (w ∷ t ∷ ts) (x ∷ g ∷ us) zero d h b z = (h.0, inr (sym h.0 ∙ z, z), h.2)
-like-set (w ∷ t ∷ ts) (x ∷ g ∷ us) (suc v) d h b z =
-    let e : 2 * suc v + 1 ≡ suc (suc (2 * v + 1)) = omega arith in
+pub like-clear : (s : Shown) (ts : List Tree) (ks : List Entry) (v : ℕ) (k : Entry) → IsLike ts (trees_of s ks) → 2 * v + 1 < length ks → s.tree k ≡ zero_tree → k ≡ get_or ks (2 * v) k → IsLike ts (trees_of s (set ks (2 * v + 1) k))
+like-clear s [] [] v k h b z e = absurd (omega arith)
+like-clear s [] (x ∷ ks) v k h b z e = absurd (cc h)
+like-clear s (w ∷ []) [] v k h b z e = absurd (omega arith)
+like-clear s (w ∷ []) (x ∷ []) v k h b z e = absurd (omega arith)
+like-clear s (w ∷ []) (x ∷ g ∷ ks) v k h b z e = (let l : suc (suc (length (trees_of s ks))) ≡ 1 = ap length h in absurd (omega arith))
+like-clear s (w ∷ t ∷ ts) [] v k h b z e = absurd h
+like-clear s (w ∷ t ∷ ts) (x ∷ []) v k h b z e = absurd h
+like-clear s (w ∷ t ∷ ts) (x ∷ g ∷ ks) zero k h b z e = (h.0, inr (sym h.0 ∙ ap s.tree (sym e) ∙ z, z), h.2)
+like-clear s (w ∷ t ∷ ts) (x ∷ g ∷ ks) (suc v) k h b z e =
+    let m : 2 * suc v + 1 ≡ suc (suc (2 * v + 1)) = omega arith in
     let f : 2 * suc v ≡ suc (suc (2 * v)) = omega arith in
-    rw (e, f) (h.0, h.1, like-set ts us v d h.2 (omega arith) (rw f at z))
+    rw m (h.0, h.1, like-clear s ts ks v k h.2 (omega arith) z (rw f at e))
 
--- a value that stands alone in the rest of a list, where the two trees before it are of a weight of 0 or of this value too
-pub alone-more : (u w f : Tree) (ts : List Tree) → (w ≡ zero_tree) ⊎ (f ≡ u) → IsAlone u ts → IsAlone u (w ∷ f ∷ ts)
-alone-more u w f ts h a = (h, a)
+-- a value that stands alone behind two trees, of a weight of 0 or of this value too, stands alone with them
+pub alone-more : (s : Shown) (u : Tree) (ks : List Entry) (v : ℕ) (d e : Entry) → 2 * v + 1 < length ks → (s.tree (get_or ks (2 * v) d) ≡ zero_tree) ⊎ (s.tree (get_or ks (2 * v + 1) e) ≡ u)
+    → IsAlone u (trees_of s (drop (2 * (v + 1)) ks)) → IsAlone u (trees_of s (drop (2 * v) ks))
+alone-more s u [] v d e b h a = absurd (omega arith)
+alone-more s u (x ∷ []) v d e b h a = absurd (omega arith)
+alone-more s u (x ∷ g ∷ ks) zero d e b h a = (h, a)
+alone-more s u (x ∷ g ∷ ks) (suc v) d e b h a =
+    let f : 2 * suc v ≡ suc (suc (2 * v)) = omega arith in
+    let m : suc (suc (2 * v)) + 1 ≡ suc (suc (2 * v + 1)) = omega arith in
+    let n : 2 * (suc v + 1) ≡ suc (suc (2 * (v + 1))) = omega arith in
+    rw f (alone-more s u ks v d e (omega arith) (rw (f, m) at h) (rw n at a))
+
+-- where at most one tree is left it stands alone
+pub alone-end : (s : Shown) (u : Tree) (ks : List Entry) (v : ℕ) → length ks < 2 * v + 2 → IsAlone u (trees_of s (drop (2 * v) ks))
+alone-end s u [] zero b = tt
+alone-end s u [] (suc v) b = let f : 2 * suc v ≡ suc (suc (2 * v)) = omega arith in rw f tt
+alone-end s u (x ∷ []) zero b = tt
+alone-end s u (x ∷ []) (suc v) b = let f : 2 * suc v ≡ suc (suc (2 * v)) = omega arith in rw f tt
+alone-end s u (x ∷ g ∷ ks) zero b = absurd (omega arith)
+alone-end s u (x ∷ g ∷ ks) (suc v) b = let f : 2 * suc v ≡ suc (suc (2 * v)) = omega arith in rw f (alone-end s u ks v (omega arith))

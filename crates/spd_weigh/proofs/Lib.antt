@@ -5,3 +5,4 @@ pub mod PlanLaws
 pub mod RuleLaws
 pub mod SlotLaws
 pub mod TopLaws
+pub mod DiscountLaws

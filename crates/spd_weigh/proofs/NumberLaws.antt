@@ -1,5 +1,5 @@
 -- Weighed sums are in range.
-use Rattle.std.proofs.Common.{◌≡◌, ℕ, zero, suc, ◌+◌, ◌-◌, ◌<◌, ◌≤◌, ◌&&◌, ◌||◌, Bool, true, false, List, [], ◌∷◌, length, get_or, drop, map, inl, inr, refl, sym, ◌∙◌, ap, subst, arith, rules, ℤ, pos, ◌+ℤ◌, ◌*ℤ◌, ◌<ℤ◌, ◌≤ℤ◌, FitsSigned, neg_ℤ}
+use Rattle.std.proofs.Common.{◌≡◌, ℕ, zero, suc, ◌+◌, ◌<◌, ◌≤◌, ◌&&◌, ◌||◌, true, List, [], ◌∷◌, length, get_or, drop, map, inl, inr, refl, arith, ℤ, pos, ◌+ℤ◌, ◌*ℤ◌, ◌≤ℤ◌, FitsSigned, neg_ℤ}
 use Rattle.std.specs.Int.{w128}
 use Rattle.std.specs.Prelude.{int_le}
 use Rattle.std.specs.Ordering.{int_eq}
@@ -34,7 +34,7 @@ weights-positive (w ∷ f ∷ ls) h =
     let b : pos 0 ≤ℤ weights ls = weights-positive ls s.1 in
     omega (arith, ints, a, b)
 
-value-within : (f : Leaf) → is_value f ≡ true → IsWithin greatest_value (number_of f)
+pub value-within : (f : Leaf) → is_value f ≡ true → IsWithin greatest_value (number_of f)
 value-within (Num a) h =
     let s = and_parts (int_le a greatest_value) (int_le (neg_ℤ greatest_value) a) h in
     let u : int_le a greatest_value ≡ true = s.0 in

@@ -1,5 +1,5 @@
 -- What the parts of a plan say of lists.
-use Rattle.std.proofs.Common.{◌≡◌, ℕ, zero, suc, ◌+◌, ◌-◌, ◌*◌, ◌/◌, ◌<◌, ◌≤◌, ◌⊎◌, inl, inr, Bool, true, false, cond, List, [], ◌∷◌, ◌++◌, map, take, None, Some, Option, refl, sym, ◌∙◌, ap, subst, arith, All, length, get_or, rules}
+use Rattle.std.proofs.Common.{◌≡◌, ℕ, suc, ◌+◌, ◌-◌, ◌/◌, ◌<◌, ◌≤◌, ◌⊎◌, inl, inr, true, List, [], ◌∷◌, ◌++◌, map, take, Some, refl, sym, ◌∙◌, ap, subst, arith, All, length, get_or}
 use Rattle.std.proofs.lemmas.List.{map-append, take_more, length-take-le}
 use Rattle.spd_cons_core.specs.declared.key.Entry.{Entry}
 use Rattle.spd_nodes.specs.declared.leaf.Leaf.{Leaf}
@@ -7,19 +7,19 @@ use Rattle.spd_nodes.specs.declared.leaf.Leaf.TheVariants.{Act}
 use Rattle.spd_nodes.specs.declared.layout.Level.{Level}
 use Rattle.spd_nodes.specs.declared.forest.View.TheVariants as V
 use Rattle.spd_nodes.specs.Levels.{levels_of, slots, after}
-use Rattle.spd_nodes.specs.Trees.{Tree, Ends, Tests, IsFrom, IsAtOrPast, IsReduced, CanTest, join, tree_rank}
-use Rattle.spd_nodes.specs.Shown.{Shown, IsSound, IsViewOf}
+use Rattle.spd_nodes.specs.Trees.{Tree, Ends, IsFrom, IsAtOrPast, IsReduced, CanTest, join, tree_rank}
+use Rattle.spd_nodes.specs.Shown.{Shown, IsSound, IsViewOf, KnowsAs}
 use Rattle.spd_nodes.proofs.CallerLemmas.{Parts, after_above, parts, rank-from, rank-view}
 use Rattle.spd_apply.specs.Halves.{yes_at, no_at, IsNotBefore, IsLeaf}
 use Rattle.spd_apply.proofs.CallerLemmas.{join-ends, not-before-at, not-before-from, not-before-lower}
 use Rattle.spd_restrict.specs.Restricted.{cofactored}
 use Rattle.spd_gather.specs.Down.{Each, FitsAt, last_leaf}
-use Rattle.spd_gather.specs.Lists.{trees_of, AreKnown, IsLowOf, AreMet, GoesToTest, GoesBelow}
-use Rattle.spd_gather.specs.Meeting.{Meet, list_rank}
+use Rattle.spd_gather.specs.Lists.{trees_of, AreKnown, IsLowOf, GoesToTest, GoesBelow}
+use Rattle.spd_gather.specs.Meeting.{list_rank}
 use Rattle.spd_gather.proofs.CallerLemmas.{all-of, each-weaker, meet-lowest, one-rank, rank-lowest, reduced-all}
 use Rattle.spd_weigh.specs.declared.way.Way.{Way}
-use Rattle.spd_weigh.specs.Summed.{summed, taken, weighed, fit, fit_mark, zero_tree, MaySum, IsLike}
-use Rattle.spd_weigh.proofs.EarlyLaws.{mark-fits, mark-like, weighed-like, each-like, length-like, rank-like}
+use Rattle.spd_weigh.specs.Summed.{summed, taken, weighed, fit, fit_mark, MaySum, IsAlone, IsLike}
+use Rattle.spd_weigh.proofs.EarlyLaws.{mark-fits, mark-like, weighed-like, each-like, length-like, rank-like, sum-alone}
 use Rattle.spd_weigh.proofs.SlotLaws.{taken-all}
 use Rattle.spd_weigh.proofs.RuleLaws.{sum-leaves, Goes, goes-before, goes-past, meet-slot, sum-in}
 
@@ -170,3 +170,11 @@ module _ (way : Way) (levels first end : ℕ) (s : Shown) (ks : List Entry) (may
 
   pub bottom-fit : fit (map last_leaf (trees_of s ks)) ≡ true
   bottom-fit = mark-fits (map last_leaf (trees_of s ks)) (sym (rw may.same (sum-leaves (slots s.sizes) may.slot first end may.is_slot fit_mark (trees_of s ks) leaves)) ∙ may.all_fit)
+
+-- a known value that alone has weight, and is past the slot, is the sum
+pub known-alone : (way : Way) (levels first end : ℕ) (s : Shown) → IsSound s → (ks : List Entry) → MaySum levels first end s.sizes (trees_of s ks) → (r : Entry) → s.knows r ≡ true → IsNotBefore end (s.tree r) → IsAlone (s.tree r) (trees_of s ks)
+    → KnowsAs s r (summed levels first end (weighed way) (trees_of s ks))
+known-alone way levels first end s o ks may r k past alone =
+    let fits = subst (λ v. summed v first end fit_mark (trees_of s ks) ≡ Ends (Act 1)) may.same may.all_fit in
+    let is = sum-alone (slots s.sizes) way may.slot first end may.is_slot (trees_of s ks) (s.tree r) (o.reduced r k) past alone fits in
+    record { knows = k; tree = sym (subst (λ v. summed v first end (weighed way) (trees_of s ks) ≡ s.tree r) (sym may.same) is) }

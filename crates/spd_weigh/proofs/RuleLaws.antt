@@ -1,5 +1,5 @@
 -- How a sum goes on from a list.
-use Rattle.std.proofs.Common.{◌≡◌, ℕ, zero, suc, ◌+◌, ◌-◌, ◌*◌, ◌/◌, ◌<◌, ◌≤◌, ◌⊎◌, inl, inr, ◌==◌, Bool, true, false, cond, List, [], ◌∷◌, map, length, set, refl, sym, ◌∙◌, ap, subst, arith}
+use Rattle.std.proofs.Common.{◌≡◌, ℕ, ◌+◌, ◌/◌, ◌<◌, ◌≤◌, ◌⊎◌, inl, inr, false, List, [], ◌∷◌, map, refl, sym, ◌∙◌, ap, arith}
 use Rattle.std.specs.Prelude.{nat_lt}
 use Rattle.std.proofs.lemmas.Bool.Decides.{nat_tests}
 use Rattle.spd_nodes.specs.declared.leaf.Leaf.{Leaf}
@@ -11,11 +11,11 @@ use Rattle.spd_apply.proofs.CallerLemmas.{not-before-from, not-before-lower}
 use Rattle.spd_restrict.specs.Restricted.{cofactored}
 use Rattle.spd_restrict.specs.Replaced.{IsWholeFrom}
 use Rattle.spd_restrict.proofs.CallerLemmas.{whole-at, whole-from}
-use Rattle.spd_gather.specs.Down.{Each, Making, down, Stands, FitsAt, at_leaves, at_each_leaf}
+use Rattle.spd_gather.specs.Down.{Each, Making, Stands, FitsAt, last_leaf, at_leaves, at_each_leaf}
 use Rattle.spd_gather.specs.Meeting.{Meet, IsLowest}
 use Rattle.spd_gather.proofs.CallerLemmas.{each-both, each-map, each-weaker, fits-stands, from-start, halves, leaf-before, leaves-end, meets, no-stands, one-found, yes-stands}
 use Rattle.spd_weigh.specs.Summed.{taken, at_slot, summed}
-use Rattle.spd_weigh.proofs.SlotLaws.{slot-ends, Comes, taken-all, first-within, slot-within}
+use Rattle.spd_weigh.proofs.SlotLaws.{slot-ends, Comes, taken-all, first-within}
 
 -- a tree past the slot is itself at each value
 pub cofactored-past : (first end value : ℕ) (t : Tree) → first ≤ end → IsNotBefore end t → cofactored first end value t ≡ t

@@ -1,5 +1,5 @@
 -- What is summed out is reduced, and has the sum's value at each point.
-use Rattle.std.proofs.Common.{◌≡◌, ℕ, zero, suc, ◌+◌, ◌-◌, ◌*◌, ◌/◌, ◌<◌, ◌≤◌, ◌⊎◌, inl, inr, ◌==◌, Bool, true, false, cond, List, [], ◌∷◌, map, length, set, refl, sym, ◌∙◌, ap, subst, arith}
+use Rattle.std.proofs.Common.{◌≡◌, ℕ, zero, suc, ◌+◌, ◌-◌, ◌/◌, ◌<◌, ◌≤◌, ◌⊎◌, inl, inr, ◌==◌, Bool, true, false, cond, List, [], ◌∷◌, map, set, refl, ◌∙◌, ap, arith}
 use Rattle.std.specs.Prelude.{nat_lt}
 use Rattle.std.proofs.lemmas.Bool.Decides.{nat_tests, Decides-eqb}
 use Rattle.spd_model.specs.States.{IsState}
@@ -7,12 +7,12 @@ use Rattle.spd_nodes.specs.declared.leaf.Leaf.{Leaf}
 use Rattle.spd_nodes.specs.Levels.{levels_of, passes, after, IsSlot}
 use Rattle.spd_nodes.specs.Trees.{Tree, Ends, Tests, IsFrom, IsAt, IsReduced, value_at}
 use Rattle.spd_nodes.proofs.CallerLemmas.{IsFrom-lower, Parts, after-before, first-in, parts, passes-before}
-use Rattle.spd_apply.specs.Halves.{yes_at, no_at, IsNotBefore}
+use Rattle.spd_apply.specs.Halves.{yes_at, no_at}
 use Rattle.spd_apply.proofs.CallerLemmas.{not-before-from}
 use Rattle.spd_restrict.specs.Restricted.{cofactored, IsUpTo}
 use Rattle.spd_restrict.specs.Replaced.{IsWholeFrom}
 use Rattle.spd_restrict.proofs.CallerLemmas.{good-cofactored, value-no, value-yes, value_at-cofactored, whole-at, whole-from}
-use Rattle.spd_gather.specs.Down.{Each, Making, down, Stands, EndsAt, at_leaves, at_each_leaf}
+use Rattle.spd_gather.specs.Down.{Each, Stands, EndsAt, at_leaves}
 use Rattle.spd_gather.proofs.CallerLemmas.{down-whole, each-both, each-weaker, good, leaves-end, stands-half, value_at-down, value_at-each, values_at}
 use Rattle.spd_weigh.specs.Summed.{taken, at_slot, summed}
 
@@ -37,9 +37,10 @@ module _ (ds : List ℕ) (slot first end : ℕ) (s : IsSlot ds slot first end) w
       go : Stands ds (l + 1) (yes_at l (Tests k y n)) × Stands ds (l + 1) (no_at l (Tests k y n)) → (z : Bool) → (k == l) ≡ z → Comes (l + 1) (cond z y (Tests k y n)) × Comes (l + 1) (cond z n (Tests k y n))
       go w true z =
           let e : k ≡ l = (Decides-eqb k l).0 z in
-          let v = rw z at w in
-          ((v.0, whole-from ds first (after ds k) y q.yes_from),
-          (v.1, elim q.no_fits [ inl f ↦ whole-from ds first (after ds k) n f | inr f ↦ whole-at ds first (k + 1) n (omega (arith, f.1, after-before ds slot first end k s (omega arith))) f.0 ]))
+          let v = rw z at w in (
+            (v.0, whole-from ds first (after ds k) y q.yes_from),
+            (v.1, elim q.no_fits [ inl f ↦ whole-from ds first (after ds k) n f | inr f ↦ whole-at ds first (k + 1) n (omega (arith, f.1, after-before ds slot first end k s (omega arith))) f.0 ]),
+          )
       go w false z = let v = rw z at w in ((v.0, h.1), (v.1, h.1))
 
   -- what such a tree at the slot is at one of its values

@@ -1,13 +1,12 @@
 -- What a sum over whole entries is: the test tree of the sum's function.
-use Rattle.std.proofs.Common.{◌≡◌, ℕ, zero, suc, ◌+◌, ◌-◌, ◌*◌, ◌/◌, ◌<◌, ◌≤◌, ◌&&◌, ◌||◌, Bool, true, false, List, [], ◌∷◌, ◌++◌, map, length, set, take, get_or, refl, sym, ◌∙◌, ap, subst, arith, All, inl, inr, ℤ, pos, ◌+ℤ◌, ◌*ℤ◌, ◌≤ℤ◌, neg_ℤ}
-use Rattle.std.specs.Prelude.{int_le}
+use Rattle.std.proofs.Common.{◌≡◌, ℕ, zero, suc, ◌+◌, ◌-◌, ◌*◌, ◌/◌, ◌<◌, ◌≤◌, ◌||◌, true, false, List, [], ◌∷◌, ◌++◌, map, length, set, take, get_or, refl, sym, ◌∙◌, ap, subst, arith, All, inl, ℤ, pos, ◌+ℤ◌, ◌*ℤ◌, ◌≤ℤ◌, neg_ℤ}
+use Rattle.std.specs.Prelude.{int_le, Contains}
 use Rattle.std.specs.Ordering.{int_eq}
 use Rattle.std.proofs.lemmas.Bool.{and_from, or_right}
 use Rattle.std.proofs.lemmas.Bool.Decides.{nat_tests}
 use Rattle.std.proofs.lemmas.Int.{ints}
 use Rattle.std.proofs.lemmas.List.{take_more, length-map}
 use Rattle.std.proofs.lemmas.List.Elements.{All-head, All-tail, All-nil, All-cons}
-use Rattle.spd_scaled.specs.Scaled.{IsWithin}
 use Rattle.spd_scaled.proofs.CallerLemmas.Ring.{int_eq-holds}
 use Rattle.spd_cons_core.specs.declared.key.Entry.{Entry}
 use Rattle.spd_model.specs.Chances.{one}
@@ -18,8 +17,8 @@ use Rattle.spd_nodes.specs.declared.leaf.Leaf.{Leaf}
 use Rattle.spd_nodes.specs.declared.leaf.Leaf.TheVariants.{Num, Pair, Act}
 use Rattle.spd_nodes.specs.Levels.{levels_of, slots, slot_of, level_at, IsSlot}
 use Rattle.spd_nodes.specs.Trees.{Tree, Ends, IsFrom, IsReduced}
-use Rattle.spd_nodes.specs.States.{Function, point, function_of, Agree}
-use Rattle.spd_nodes.specs.Shown.{Shown, IsSound, IsWhole, meaning}
+use Rattle.spd_nodes.specs.States.{Function, point}
+use Rattle.spd_nodes.specs.Shown.{Shown, IsSound, IsWhole, Grows, meaning}
 use Rattle.spd_nodes.proofs.CallerLemmas.{IsState-point, IsTreeFor, levels_of-slots, slot-of, tree-for}
 use Rattle.spd_apply.proofs.CallerLemmas.{not-before-from}
 use Rattle.spd_restrict.specs.Chosen.{function_at}
@@ -27,12 +26,12 @@ use Rattle.spd_restrict.proofs.CallerLemmas.{set-primed, whole-from}
 use Rattle.spd_gather.specs.Down.{Each}
 use Rattle.spd_gather.specs.Lists.{trees_of, AreKnown, HoldsRows, IsListReady}
 use Rattle.spd_gather.specs.Rows.{Row}
-use Rattle.spd_gather.proofs.CallerLemmas.{each-both, each-weaker}
+use Rattle.spd_gather.proofs.CallerLemmas.{each-both, each-weaker, rows-grow}
 use Rattle.spd_weigh.specs.declared.way.Way.{Way}
 use Rattle.spd_weigh.specs.Leaves.{number_of, rounding_of, greatest_value, IsWeight, IsValue, HasValues}
 use Rattle.spd_weigh.specs.Summed.{summed, weighed, products, weights, is_weight, is_value, each_fits, fit, fit_mark, beside, MaySum, IsLike, HoldsSums}
 use Rattle.spd_weigh.specs.Weighing.{summed_out, product_at, weight_at, AreWeights}
-use Rattle.spd_weigh.proofs.EarlyLaws.{mark-like, weighed-like}
+use Rattle.spd_weigh.proofs.EarlyLaws.{weighed-like}
 use Rattle.spd_weigh.proofs.PlanLaws.{may-like}
 use Rattle.spd_weigh.proofs.SlotLaws.{first-within, Comes, slot_values, summed-whole, value_at-summed}
 
@@ -86,13 +85,13 @@ module _ (var : ℕ) (f : Function) (s t : List ℕ) where
   weight-holds (Pair x y) h = absurd h
   weight-holds (Act x) h = absurd h
 
-  value-holds : (a : Leaf) → IsValue a → is_value a ≡ true
+  pub value-holds : (a : Leaf) → IsValue a → is_value a ≡ true
   value-holds (Num x) h =
       let low : neg_ℤ greatest_value ≤ℤ x = h.low in
       let high : x ≤ℤ greatest_value = h.high in
       let a : int_le x greatest_value ≡ true = grind (arith, ints, nat_tests) in
       let b : int_le (neg_ℤ greatest_value) x ≡ true = grind (arith, ints, nat_tests) in
-      and_from a b
+      and_from (int_le x greatest_value) (int_le (neg_ℤ greatest_value) x) a b
   value-holds (Pair x y) h = absurd h
   value-holds (Act x) h = absurd h
 
@@ -102,7 +101,8 @@ module _ (var : ℕ) (f : Function) (s t : List ℕ) where
       let a : is_weight (w s (set t var k)) ≡ true = weight-holds _ (subst (λ j. IsWeight (w s (set t var j))) (at-start k) (h 0 (omega arith))) in
       let b : is_value (value k) ≡ true = value-holds _ (subst (λ j. IsValue (value j)) (at-start k) (g 0 (omega arith))) in
       let c : each_fits (weights_at ws var (k + 1) f s t) ≡ true = fits-each ws (k + 1) (λ v i. subst (λ j. IsWeight (function_at ws v s (set t var j))) (sym (next k v)) (h (suc v) (omega arith))) (λ v i. subst (λ j. IsValue (value j)) (sym (next k v)) (g (suc v) (omega arith))) in
-      and_from (and_from a (or_right (int_eq (number_of (w s (set t var k))) (pos 0)) b)) c
+      and_from _ (each_fits (weights_at ws var (k + 1) f s t))
+      (and_from (is_weight (w s (set t var k))) (int_eq (number_of (w s (set t var k))) (pos 0) || is_value (value k)) a (or_right (int_eq (number_of (w s (set t var k))) (pos 0)) (is_value (value k)) b)) c
 
 zero-plus : (v : ℕ) → 0 + v ≡ v
 zero-plus v = omega arith
@@ -133,7 +133,7 @@ fit-at sizes var ws f count h g s t p q =
     weights-sum var f s t ws 0
     ∙ sum_below-cong (length ws) _ (λ v. number_of (weight_at var ws v s t)) (λ v b. ap (λ j. number_of (function_at ws v s (set t var j))) (zero-plus v))
     ∙ h.sum s t p q in
-    and_from a (int_eq-holds _ one e)
+    and_from (each_fits (weights_at ws var 0 f s t)) (int_eq (weights (weights_at ws var 0 f s t)) one) a (int_eq-holds (weights (weights_at ws var 0 f s t)) one e)
 
 -- ---- entries side by side
 
@@ -172,6 +172,19 @@ last-levels (d ∷ ds) (suc k) h =
     let e : 2 * suc k + 1 ≡ suc (suc (2 * k + 1)) = omega arith in
     let f : levels_of (take (2 * suc k + 1) (slots (d ∷ ds))) ≡ (d - 1) + ((d - 1) + levels_of (take (2 * k + 1) (slots ds))) = ap (λ n. levels_of (take n (d ∷ d ∷ slots ds))) e in
     omega (arith, f, i)
+
+-- what a layout tells of the levels
+pub levels-from : (sizes own all : List ℕ) (last levels : ℕ) → own ≡ sizes → all ≡ own → 0 < length sizes → last ≡ level_at own (length all - 1) false 0 → levels ≡ last + (get_or own (length all - 1) 0 - 1) → levels ≡ levels_of (slots sizes)
+levels-from sizes own all last levels e a some h i =
+    let count : length all ≡ length sizes = ap length (a ∙ e) in
+    let h' : last ≡ level_at sizes (length all - 1) false 0 = rw e at h in
+    let i' : levels ≡ last + (get_or sizes (length all - 1) 0 - 1) = rw e at i in
+    i' ∙ ap (λ v. v + (get_or sizes (length all - 1) 0 - 1)) h' ∙ last-levels sizes (length all - 1) (omega (arith, count, some))
+
+-- and of the variable
+pub placed-from : (sizes own all : List ℕ) (var first end last levels : ℕ) → own ≡ sizes → all ≡ own → 0 < length sizes → first ≡ level_at own var true 0 → end ≡ first + (get_or own var 0 - 1)
+    → last ≡ level_at own (length all - 1) false 0 → levels ≡ last + (get_or own (length all - 1) 0 - 1) → IsPlaced sizes var levels first end
+placed-from sizes own all var first end last levels e a some f g h i = record { same = levels-from sizes own all last levels e a some h i; first_is = rw e at f; end_is = rw e at g }
 
 module _ (s : Shown) (o : IsSound s) (var levels first end : ℕ) (b : var < length s.sizes) (placed : IsPlaced s.sizes var levels first end)
     (f : Entry) (kf : s.knows f ≡ true) (wf : IsWhole s f) (ws : List Entry) (kw : AreKnown s ws) (ww : All (λ w. IsWhole s w) ws) where
@@ -229,8 +242,13 @@ module _ (s : Shown) (o : IsSound s) (var levels first end : ℕ) (b : var < len
   -- weights and numbers that fit at all states fit wherever they meet
   top-fit : length ws ≡ get_or s.sizes var 0 → AreWeights s.sizes var fs → HasValues s.sizes (meaning s f) → summed (levels_of ds) first end fit_mark ts ≡ Ends (Act 1)
   top-fit count h g =
-      tree-for o (top-tree fit_mark)
-      ∙ sym (tree-for o (record { reduced = tt; whole = tt; value = record { at = λ x y p q. (let e : fit (weights_at fs var 0 (meaning s f) x y) ≡ true = fit-at s.sizes var fs (meaning s f) (length-map ws (meaning s) ∙ count) h g x y p q in rw e refl) } }))
+      let mark : Function = λ x y. fit_mark (weights_at fs var 0 (meaning s f) x y) in
+      let all : IsTreeFor s (Ends (Act 1)) mark = record {
+        reduced = tt;
+        whole = tt;
+        value = record { at = λ x y p q. (let e : fit (weights_at fs var 0 (meaning s f) x y) ≡ true = fit-at s.sizes var fs (meaning s f) (length-map ws (meaning s) ∙ count) h g x y p q in rw e refl) };
+      } in
+      tree-for {s = s} {u = summed (levels_of ds) first end fit_mark ts} {f = mark} o (top-tree fit_mark) ∙ sym (tree-for {s = s} {u = Ends (Act 1)} {f = mark} o all)
 
   length-beside : (us : List Entry) → length (trees_of s (beside us f)) ≡ 2 * length us
   length-beside [] = refl
@@ -269,4 +287,15 @@ module _ (s : Shown) (o : IsSound s) (var levels first end : ℕ) (b : var < len
 -- afterwards the table holds such sums again
 pub sum-holds : (way : Way) (s t : Shown) (var levels first end : ℕ) → IsPlaced s.sizes var levels first end → t.sizes ≡ s.sizes → (rows : List Row)
     → HoldsRows (summed levels first end (weighed way)) t rows → HoldsSums way var t rows
-sum-holds way s t var levels first end p e rows h = rw e (rw (p.end_is, p.first_is, p.same) at h)
+sum-holds way s t var levels first end p e rows h =
+    let P : List ℕ → Type 0 = λ z. HoldsRows (summed (levels_of (slots z)) (level_at z var true 0) (level_at z var true 0 + (get_or z var 0 - 1)) (weighed way)) t rows in
+    subst P (sym e) (rw (p.end_is, p.first_is, p.same) at h)
+
+-- a table without rows holds such sums, and goes on to hold them
+pub sums-none : (way : Way) (var : ℕ) (s : Shown) (rows : List Row) → rows ≡ [] → HoldsSums way var s rows
+sums-none way var s rows e = record { each = λ ks r m. absurd (let n = subst (λ (l : List Row). Contains l (ks, r)) e m in omega (arith, n.1)) }
+
+pub sums-grow : (way : Way) (var : ℕ) (s t : Shown) (rows : List Row) → Grows s t → HoldsSums way var s rows → HoldsSums way var t rows
+sums-grow way var s t rows g h =
+    let P : List ℕ → Type 0 = λ z. HoldsRows (summed (levels_of (slots z)) (level_at z var true 0) (level_at z var true 0 + (get_or z var 0 - 1)) (weighed way)) t rows in
+    subst P (sym g.sizes) (rows-grow h g)

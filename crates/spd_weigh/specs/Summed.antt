@@ -1,5 +1,5 @@
 -- Weights and values in turn, summed out over a slot: what the recursion makes of trees.
-use Rattle.std.specs.Prelude.{◌≡◌, ℕ, ◌+◌, ◌*◌, ◌≤◌, ◌/◌, ◌⊎◌, ◌&&◌, ◌||◌, Bool, true, false, cond, List, [], ◌∷◌, map, length, ℤ, pos, int_le, ◌+ℤ◌, ◌*ℤ◌, neg_ℤ, slice_index, ◌-◌}
+use Rattle.std.specs.Prelude.{◌≡◌, ℕ, ◌+◌, ◌≤◌, ◌/◌, ◌⊎◌, ◌&&◌, ◌||◌, Bool, true, false, cond, List, [], ◌∷◌, length, ℤ, pos, int_le, ◌+ℤ◌, ◌*ℤ◌, neg_ℤ, slice_index, ◌-◌}
 use Rattle.std.specs.Ordering.{int_eq}
 use Rattle.spd_cons_core.specs.declared.key.Entry.{Entry}
 use Rattle.spd_model.specs.Chances.{one, discount_one}
@@ -112,14 +112,19 @@ abbrev pub discounted_leaf : Way → ℕ → List Leaf → Leaf
 discounted_leaf way discount [] = Act 0
 discounted_leaf way discount (a ∷ ls) = Num (rounding_of way (pos discount *ℤ number_of a) (pos discount_one))
 
--- 1 where a leaf is a value in range, else 0
-abbrev pub value_mark : List Leaf → Leaf
-value_mark [] = Act 0
-value_mark (a ∷ ls) = cond (is_value a) (Act 1) (Act 0)
+-- one leaf, a value in range
+abbrev pub fits_one : List Leaf → Bool
+fits_one [] = false
+fits_one (a ∷ ls) = is_value a
 
--- A tree may be discounted: it stands alone, and its leaves are values in range.
-pub record MayDiscount (levels : ℕ) (sizes : List ℕ) (ts : List Tree) : Type 0 where
+-- 1 where that leaf fits, else 0
+abbrev pub value_mark : List Leaf → Leaf
+value_mark ls = cond (fits_one ls) (Act 1) (Act 0)
+
+-- A tree may be discounted: its leaves are values in range.
+pub record MayDiscount (levels discount : ℕ) (sizes : List ℕ) (ts : List Tree) : Type 0 where
   pub same : levels ≡ levels_of (slots sizes)
+  pub small : discount ≤ 999999
   pub meet : Meet (slots sizes) 0 0 ts
   pub all_fit : at_each_leaf levels value_mark ts ≡ Ends (Act 1)
 

@@ -4,7 +4,7 @@ ghost use Rattle.std.specs.Prelude.{◌≡◌, ◌⊎◌, ℕ, ◌<◌, ◌≤�
 ghost use Rattle.spd_model.specs.Chances.{one};
 ghost use Rattle.spd_nodes.specs.Levels.{levels_of, slots};
 ghost use Rattle.spd_nodes.specs.Shown.{Shown, IsSound, MakesTree};
-ghost use Rattle.spd_nodes.specs.Trees.{Ends};
+ghost use Rattle.spd_nodes.specs.Trees.{Tree, Ends};
 ghost use Rattle.spd_apply.specs.Halves.{IsNotBefore, IsLeaf};
 ghost use Rattle.spd_restrict.specs.Restricted.{cofactored};
 ghost use Rattle.spd_gather.specs.Down.{Each, last_leaf};
@@ -56,7 +56,23 @@ fn is_past<F: Forest>(forest: &mut F, r: Ref, end: u16) -> bool
     }
 }
 
-/// Puts a weight of 0 in the place of its value too. Any value may stand there, so lists with the same sum become one.
+/// Puts a weight in the place of its value where it is 0.
+fn clear_value<F: Forest>(forest: &mut F, list: &mut Vec<Ref>, v: usize)
+    requires known { AreKnown (F.shows forest.old) list.old.items }
+    requires v { 2 * v + 1 < length list.old.items }
+    ensures same { F.shows forest.new ≡ F.shows forest.old }
+    ensures keeps { F.kept forest.new ≡ F.kept forest.old }
+    ensures length { length list.new.items ≡ length list.old.items }
+    ensures known { AreKnown (F.shows forest.old) list.new.items }
+    ensures like { (ts : List Tree) → IsLike ts (trees_of (F.shows forest.old) list.old.items) → IsLike ts (trees_of (F.shows forest.old) list.new.items) }
+{
+    let weight = list[2 * v];
+    if is_zero(forest, weight) {
+        list[2 * v + 1] = weight;
+    }
+}
+
+/// Puts each weight of 0 in the place of its value too. Any value may stand there, so lists with the same sum become one.
 pub fn clear<F: Forest>(forest: &mut F, list: &mut Vec<Ref>)
     requires known { AreKnown (F.shows forest.old) list.old.items }
     ensures same { F.shows forest.new ≡ F.shows forest.old }
@@ -65,10 +81,7 @@ pub fn clear<F: Forest>(forest: &mut F, list: &mut Vec<Ref>)
     ensures like { IsLike (trees_of (F.shows forest.old) list.old.items) (trees_of (F.shows forest.old) list.new.items) }
 {
     for v in 0..list.len() / 2 {
-        let weight = list[2 * v];
-        if is_zero(forest, weight) {
-            list[2 * v + 1] = weight;
-        }
+        clear_value(forest, list, v);
     }
 }
 
@@ -233,7 +246,12 @@ impl ListRule for Weighing {
         }
     }
 
-    fn plan<F: Forest>(&self, alloc: Global, forest: &mut F, list: &[Ref]) -> Result<ListPlan, AllocError> {
+    fn plan<F: Forest>(
+        &self,
+        alloc: Global,
+        forest: &mut F,
+        list: &[Ref],
+    ) -> Result<ListPlan, AllocError> {
         match lowest_level(forest, list) {
             None => Ok(ListPlan::Bottom),
             Some(level) => {
@@ -251,7 +269,12 @@ impl ListRule for Weighing {
         }
     }
 
-    fn bottom<F: Forest, L: Ledger>(&self, forest: &mut F, list: &[Ref], steps: &mut Steps<L>) -> Result<Ref, OpFault> {
+    fn bottom<F: Forest, L: Ledger>(
+        &self,
+        forest: &mut F,
+        list: &[Ref],
+        steps: &mut Steps<L>,
+    ) -> Result<Ref, OpFault> {
         let leaf = weighed_leaf(forest, self.way, list);
         forest.leaf(leaf, steps)
     }

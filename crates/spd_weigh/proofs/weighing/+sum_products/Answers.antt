@@ -1,8 +1,7 @@
 use Rattle.std.proofs.Common.{rules, arith, sym, ◌∙◌, ◌+◌, ◌<◌, length, FitsSigned, ◌≡◌, ◌*ℤ◌, ◌+ℤ◌, drop, true}
 use Rattle.std.specs.Int.{w128}
 use Rattle.std.proofs.lemmas.Int.{to_z-of_z}
-use Rattle.spd_weigh.specs.Summed.{each_fits, weights, products}
-use Rattle.spd_model.specs.Chances.{one}
+use Rattle.spd_weigh.specs.Summed.{each_fits, products}
 use Rattle.spd_weigh.proofs.NumberLaws.{sum-goes, drop-end, leaves_of}
 use Rattle.spd_weigh.proofs.weighing.+sum_products.Goals as goal
 
