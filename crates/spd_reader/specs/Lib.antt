@@ -1,4 +1,5 @@
 pub mod Faults
 pub mod Trees
+pub mod Facts
 pub mod Models
 pub mod Reading

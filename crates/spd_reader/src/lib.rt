@@ -1,6 +1,10 @@
 //! The reader of model files: bytes in, a model or the first fault out.
 #![tactic(auto)]
 
+mod facts;
+mod faults;
+mod index;
+mod places;
 mod purpose;
 mod reader;
 
