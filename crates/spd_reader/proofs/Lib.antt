@@ -1,0 +1,3 @@
+pub mod IndexViews
+pub mod LeastLaws
+pub mod FactLaws

@@ -4,6 +4,7 @@ use Rattle.std.specs.List.{list_any}
 use Rattle.spd_model.specs.Trees.{Reading, Part, number, choice, missing}
 use Rattle.spd_reader.specs.declared.facts.Facts.{Facts}
 use Rattle.spd_reader.specs.declared.purpose.Purpose.{Purpose}
+use Rattle.spd_reader.specs.declared.purpose.Purpose.TheVariants.{Diagram, Table, Reward}
 use Rattle.spd_reader.specs.Trees.{may_prime, is_negative, is_fine}
 
 abbrev pub lesser_var : Option ℕ → Option ℕ → Option ℕ
@@ -48,3 +49,13 @@ facts_of parts nesting = record { primed = least_primed parts; negative = list_a
 abbrev pub primes_wrong_in : Purpose → Option ℕ → Bool
 primes_wrong_in p None = false
 primes_wrong_in p (Some var) = not (may_prime p var)
+
+abbrev pub negative_wrong_in : Purpose → Bool → Bool
+negative_wrong_in Diagram negative = false
+negative_wrong_in (Table i) negative = negative
+negative_wrong_in Reward negative = false
+
+abbrev pub fine_wrong_in : Purpose → Bool → Bool
+fine_wrong_in Diagram fine = false
+fine_wrong_in (Table i) fine = false
+fine_wrong_in Reward fine = fine

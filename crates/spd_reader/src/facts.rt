@@ -1,8 +1,7 @@
 //! What a use of a decision diagram asks.
 
 ghost use Rattle.std.specs.Prelude.{◌≡◌, if◌then◌else◌, Some, None};
-ghost use Rattle.spd_model.specs.declared.tree.Tree.{Tree as TreeValue};
-ghost use Rattle.spd_reader.specs.Facts.{lesser_var, together, deeper, of_leaf, of_branch, primes_wrong_in};
+ghost use Rattle.spd_reader.specs.Facts.{lesser_var, together, deeper, of_leaf, of_branch, no_facts, primes_wrong_in, negative_wrong_in, fine_wrong_in};
 
 use crate::purpose::Purpose;
 
@@ -31,6 +30,18 @@ fn lesser_var(a: Option<u32>, b: Option<u32>) -> Option<u32>
 }
 
 impl Facts {
+    /// The facts of nothing.
+    pub(crate) fn none() -> Facts
+        ensures { result ≡ no_facts }
+    {
+        Facts {
+            primed: None,
+            negative: false,
+            fine: false,
+            nesting: 0,
+        }
+    }
+
     /// The facts of a leaf.
     pub(crate) fn of_leaf(units: i128) -> Facts
         ensures { result ≡ of_leaf units }
@@ -86,6 +97,26 @@ impl Facts {
         match self.primed {
             None => false,
             Some(var) => !purpose.may_prime(var),
+        }
+    }
+
+    /// Whether a leaf is below zero that may not be so here.
+    pub(crate) fn negative_wrong(self, purpose: Purpose) -> bool
+        ensures { result ≡ negative_wrong_in purpose self.negative }
+    {
+        match purpose {
+            Purpose::Table(_) => self.negative,
+            Purpose::Diagram | Purpose::Reward => false,
+        }
+    }
+
+    /// Whether a leaf is no whole number of 10^-9 where it has to be one.
+    pub(crate) fn fine_wrong(self, purpose: Purpose) -> bool
+        ensures { result ≡ fine_wrong_in purpose self.fine }
+    {
+        match purpose {
+            Purpose::Reward => self.fine,
+            Purpose::Diagram | Purpose::Table(_) => false,
         }
     }
 }

@@ -1,9 +1,12 @@
 //! The reader of model files: bytes in, a model or the first fault out.
 #![tactic(auto)]
 
+mod dd;
 mod facts;
 mod faults;
 mod index;
+mod lookups;
+mod names;
 mod places;
 mod purpose;
 mod reader;
