@@ -1,13 +1,13 @@
 -- What a use of a decision diagram asks, by what is written in it and how deep it nests.
-use Rattle.std.proofs.Common.{◌≡◌, ℕ, zero, suc, ◌+◌, ◌<◌, ◌≤◌, Bool, true, false, cond, List, [], ◌∷◌, ◌++◌, length, flat_map, fold, get_or, Option, Some, None, refl, sym, ap, ◌∙◌, subst, arith, append-nil, min, max, pos, length-append}
+use Rattle.std.proofs.Common.{◌≡◌, ℕ, zero, suc, ◌+◌, ◌<◌, ◌≤◌, Bool, true, false, cond, List, [], ◌∷◌, ◌++◌, length, flat_map, fold, get_or, take, Option, Some, None, refl, sym, ap, ◌∙◌, subst, arith, append-nil, min, max, pos, length-append}
 use Rattle.std.specs.Prelude.{◌||◌, not, nat_le, nat_lt, ◌==◌, ◌%◌, int_lt, unsigned_abs, if◌then◌else◌, ℤ, map}
 use Rattle.std.specs.List.{list_any}
-use Rattle.std.proofs.lemmas.List.{append_assoc, get_or-map, get_or_past, length-map}
+use Rattle.std.proofs.lemmas.List.{append_assoc, get_or-map, get_or_past, length-map, take_all}
 use Rattle.std.proofs.lemmas.List.Folds.{list_any-append}
 use Rattle.std.proofs.lemmas.Bool.Decides.{nat_tests}
-use Rattle.spd_model.specs.declared.tree.Tree.{Tree, Leaf, Named, Branch', Row_of-Tree, end_of-Tree, more_of-Tree}
+use Rattle.spd_model.specs.declared.tree.Tree.{Tree, Leaf, Named, Branch, Branch', Row_of-Tree, end_of-Tree, more_of-Tree}
 use Rattle.spd_model.specs.Trees.{Part, number, choice, missing, parts, nesting, read_tree, read_kids, read_diagrams}
-use Rattle.spd_model.proofs.CallerLemmas.Trees.{length-read_diagrams}
+use Rattle.spd_model.proofs.CallerLemmas.Trees.{length-read_diagrams, read_tree-Branch}
 use Rattle.spd_reader.specs.declared.dd.Dd.{Dd}
 use Rattle.spd_reader.specs.declared.facts.Facts.{Facts}
 use Rattle.spd_reader.specs.declared.purpose.Purpose.{Purpose}
@@ -133,6 +133,13 @@ pub facts_past : (dds : List Dd) (d : ℕ) → length dds ≤ d → facts_in dds
     → no_facts ≡ facts_of (get_or (read_diagrams parts [] (trees_in dds)) d []) (get_or (read_diagrams nesting [] (trees_in dds)) d 0)
 facts_past dds d past known =
     sym (get_or_past (facts_in dds) d no_facts (omega (arith, past, length-map dds (λ (y : Dd). y.facts)))) ∙ ap (λ (fs : List Facts). get_or fs d no_facts) known ∙ dd_facts (trees_in dds) d
+
+-- the facts of a choice, after those of its subtrees
+pub branch_facts : (fs : List Facts) (tree : Tree) (var : ℕ) (primed : Bool) (kids items : List Tree) (first all : Facts) (i : ℕ) → tree ≡ Branch var primed kids → items ≡ kids → first ≡ of_branch var primed → length items ≤ i
+    → all ≡ fold together first (map (read_tree facts fs) (take i items)) → deeper all ≡ read_tree facts fs tree
+branch_facts fs tree var primed kids items first all i is same begun past told =
+    ap deeper (told ∙ ap (λ (l : List Tree). fold together first (map (read_tree facts fs) l)) (take_all i items past ∙ same) ∙ ap (λ (f : Facts). fold together f (map (read_tree facts fs) kids)) begun)
+    ∙ sym (read_tree-Branch facts fs var primed kids) ∙ ap (read_tree facts fs) (sym is)
 
 -- ---- what a use asks
 

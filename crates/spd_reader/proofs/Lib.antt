@@ -1,3 +1,4 @@
 pub mod IndexViews
 pub mod LeastLaws
 pub mod FactLaws
+pub mod TreeLaws

@@ -10,6 +10,7 @@ mod names;
 mod places;
 mod purpose;
 mod reader;
+mod trees;
 
 pub use purpose::Purpose;
 pub use reader::read_model;

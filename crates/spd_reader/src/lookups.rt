@@ -1,10 +1,11 @@
 //! What names stand for where a tree stands.
 
-ghost use Rattle.std.specs.Prelude.{◌≡◌, ◌<◌, ◌≤◌, length};
+ghost use Rattle.std.specs.Prelude.{◌≡◌, ◌<◌, ◌≤◌, length, map, slice_index_or};
 ghost use Rattle.spd_syntax.specs.Words.{text_of};
+ghost use Rattle.spd_reader.specs.declared.dd.Dd.{Dd as DdValue};
 ghost use Rattle.spd_reader.specs.Faults.{least};
 ghost use Rattle.spd_reader.specs.Trees.{number_in, var_number, values_of, dd_parts, dd_nesting, name_faults, use_faults};
-ghost use Rattle.spd_reader.specs.Facts.{facts_of};
+ghost use Rattle.spd_reader.specs.Facts.{facts_of, no_facts};
 ghost use Rattle.spd_reader.specs.Scopes.{scope_of};
 
 use crate::facts::Facts;
@@ -73,8 +74,9 @@ impl<'f> Names<'f> {
     }
 
     /// What a use of a decision diagram asks.
-    fn facts_of(&self, dd: u32) -> Facts
-        ensures { result ≡ facts_of (dd_parts (scope_of self.now) dd) (dd_nesting (scope_of self.now) dd) }
+    pub(crate) fn facts_of(&self, dd: u32) -> Facts
+        ensures kept { result ≡ slice_index_or (map (λ (d : DdValue). d.facts) self.now.dds.items) dd no_facts }
+        ensures told { result ≡ facts_of (dd_parts (scope_of self.now) dd) (dd_nesting (scope_of self.now) dd) }
     {
         if (dd as usize) < self.dds.len() {
             self.dds[dd as usize].facts

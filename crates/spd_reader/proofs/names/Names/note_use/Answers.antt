@@ -21,10 +21,10 @@ returns-in-Some c =
     let s = scope_of c.args.self.now in
     let at = c.args.at in
     let parts = dd_parts s c.in-Some.dd in
-    let primed = c.primes_wrong.ensures ∙ ap (λ f. primes_wrong_in c.args.purpose f.primed) c.facts_of-facts.ensures ∙ sym (primes_asked c.args.purpose parts) in
-    let negative = c.negative_wrong.ensures ∙ ap (λ f. negative_wrong_in c.args.purpose f.negative) c.facts_of-facts.ensures ∙ sym (negative_asked c.args.purpose parts) in
-    let fine = c.fine_wrong.ensures ∙ ap (λ f. fine_wrong_in c.args.purpose f.fine) c.facts_of-facts.ensures ∙ sym (fine_asked c.args.purpose parts) in
-    let deep = ap (λ f. nat_lt c.args.depth f.nesting) c.facts_of-facts.ensures ∙ sym (deep_asked c.args.depth (dd_nesting s c.in-Some.dd) c.requires) in
+    let primed = c.primes_wrong.ensures ∙ ap (λ f. primes_wrong_in c.args.purpose f.primed) c.facts_of-facts.ensures.told ∙ sym (primes_asked c.args.purpose parts) in
+    let negative = c.negative_wrong.ensures ∙ ap (λ f. negative_wrong_in c.args.purpose f.negative) c.facts_of-facts.ensures.told ∙ sym (negative_asked c.args.purpose parts) in
+    let fine = c.fine_wrong.ensures ∙ ap (λ f. fine_wrong_in c.args.purpose f.fine) c.facts_of-facts.ensures.told ∙ sym (fine_asked c.args.purpose parts) in
+    let deep = ap (λ f. nat_lt c.args.depth f.nesting) c.facts_of-facts.ensures.told ∙ sym (deep_asked c.args.depth (dd_nesting s c.in-Some.dd) c.requires) in
     least_four c.args.found.now c.note_if.new.found c.note_if-in-Some.new.found c.note_if-in-Some-2.new.found c.note_if-in-Some-3.new.found
     (when (list_any (primes_wrong c.args.purpose) parts) (Primed at))
     (when (list_any (negative_wrong c.args.purpose) parts) (Negative at))
