@@ -1,3 +1,5 @@
 mod Moves
 mod TreeMoves
 mod FileMoves
+mod Accepted
+mod Unique

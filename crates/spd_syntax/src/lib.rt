@@ -15,5 +15,5 @@ mod words;
 pub use file::{Branch, Counts, File, Item, Quantity, Section, Shape, Variable, Word};
 pub use refusal::{Refusal, Want, What};
 pub use sections::{ItemWord, SectionWord};
-pub use syntax::{law_written, read_syntax};
+pub use syntax::{law_accepted, law_once, law_written, read_syntax};
 pub use unread::Unread;

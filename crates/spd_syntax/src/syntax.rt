@@ -68,3 +68,13 @@ pub fn read_syntax(alloc: Global, bytes: &[u8]) -> Result<File, Unread>
 pub fn law_written()
     ensures { (file : List ℕ) (f : FileValue) → IsWritten file f → first_fault file ≡ None }
 {}
+
+/// A file without a fault is written.
+pub fn law_accepted()
+    ensures { (file : List ℕ) → first_fault file ≡ None → (f : FileValue) × IsWritten file f }
+{}
+
+/// A file is written in at most one way.
+pub fn law_once()
+    ensures { (file : List ℕ) (f g : FileValue) → IsWritten file f → IsWritten file g → f ≡ g }
+{}
