@@ -10,8 +10,10 @@ use Rattle.spd_syntax.specs.declared.file.Word.{Word}
 use Rattle.spd_syntax.specs.declared.file.Counts.{Counts}
 use Rattle.spd_syntax.specs.declared.file.Quantity.{Quantity}
 use Rattle.spd_syntax.specs.declared.file.Quantity.TheVariants.{Diagram, Table, Reward}
-use Rattle.spd_syntax.specs.declared.file.Shape.{Shape, Number, Use, Choice, Choice', Row_of-Branch, end_of-Branch, more_of-Branch, items-the_row-Branch}
-use Rattle.spd_syntax.specs.declared.file.Shape.TheViews.{roll-out-Shape}
+use Rattle.spd_syntax.specs.declared.file.Shape.{Shape, Number, Use, Choice, Choice', Row_of-Branch, end_of-Branch, more_of-Branch, items-the_row-Branch, items_shown-the_row-Branch-0}
+use Rattle.spd_syntax.specs.declared.file.Shape.TheBlock.{shown-the_row-Branch-0}
+use Rattle.spd_syntax.specs.declared.file.Branch.{Branch}
+use Rattle.spd_syntax.specs.declared.file.Shape.TheViews.{roll-Shape, out-Shape, roll-out-Shape}
 use Rattle.spd_syntax.specs.declared.file.Variable.{Variable}
 use Rattle.spd_syntax.specs.declared.file.Item.{Item}
 use Rattle.spd_syntax.specs.declared.file.Item.TheVariants as items
@@ -83,7 +85,8 @@ clash file w v words l r = false≢true (sym r ∙ ap (λ (u : Word). is_number_
 
 -- a choice is made of the list of its branches
 rolled : (w : Word) (primed : Bool) (shape : _) (row : Row_of-Branch (_)) → Choice w primed (items-the_row-Branch _ row) ≡ Choice' w primed shape row
-rolled w primed shape row = roll-out-Shape (Choice' w primed shape row)
+unfolding roll-Shape denote.Hole.Carrier.roll out-Shape denote.Hole.Carrier.out shown-the_row-Branch-0 denote.Hole.Carrier.shown denote.Hole.Carrier.hidden
+rolled w primed shape row = ap (λ (bs : List Branch). Choice w primed bs) (sym (items_shown-the_row-Branch-0 shape row)) ∙ roll-out-Shape (Choice' w primed shape row)
 
 mutual
   inside_same : (file : List ℕ) (q : Quantity) (n : ℕ) (s v : Shape) (a b c d : List Token) → a ≡ b → IsInside file q n s a c → IsInside file q n v b d → (s ≡ v) × (c ≡ d)
@@ -110,10 +113,11 @@ mutual
       let marks : primed ≡ marked = sym l.7.mark ∙ ap (λ (u : Word). is_primed (text_of file u)) words.0 ∙ r.7.mark in
       let names : w ≡ v = l.7.word ∙ ap (λ (p : Bool). unmarked p l.2) marks ∙ ap (λ (u : Word). unmarked marked u) words.0 ∙ sym r.7.word in
       let rows = rows_same file q n row other l.0 r.0 l.1 r.1 c d words.1 l.4 l.5 r.4 r.5 in
-      (ap (λ (u : Word). choice_of u primed (k, row)) names ∙ ap (λ (p : Bool). choice_of v p (k, row)) marks ∙ ap (λ (x : Row). choice_of v marked x) rows.0, rows.1)
+      (sym (rolled w primed k row) ∙ ap (λ (u : Word). Choice u primed (items-the_row-Branch _ row)) names ∙ ap (λ (p : Bool). Choice v p (items-the_row-Branch _ row)) marks ∙ ap (λ (bs : List Branch). Choice v marked bs) rows.0
+      ∙ rolled v marked m other, rows.1)
 
   rows_same : (file : List ℕ) (q : Quantity) (n : ℕ) {k m : _} (row : Row_of-Branch k) (other : Row_of-Branch m) (a b c d e f : List Token) → a ≡ b → AreBranches file q n row a c → One Close c e → AreBranches file q n other b d → One Close d f
-      → ((k, row) ≡ (m, other)) × (e ≡ f)
+      → (items-the_row-Branch k row ≡ items-the_row-Branch m other) × (e ≡ f)
   rows_same file q n end_of-Branch end_of-Branch a b c d e f same l lc r rc = (refl, one_same Close c d e f (sym l ∙ same ∙ r) lc rc)
   rows_same file q n end_of-Branch (more_of-Branch v kid other) a b c d e f same l lc r rc = absurd (brackets_apart b c r.0 e (sym same ∙ l) r.5 lc)
   rows_same file q n (more_of-Branch w kid row) end_of-Branch a b c d e f same l lc r rc = absurd (brackets_apart a d l.0 f (same ∙ r) l.5 rc)
@@ -122,7 +126,8 @@ mutual
       let words = words_same w v l.0 r.0 l.1 r.1 opens l.6 r.6 in
       let kids = inside_same file q (n + 1) kid child l.2 r.2 l.3 r.3 (one_same Open l.1 r.1 l.2 r.2 words.1 l.9 r.9) l.10 r.10 in
       let rest = rows_same file q n row other l.4 r.4 c d e f (one_same Close l.3 r.3 l.4 r.4 kids.1 l.11 r.11) l.12 lc r.12 rc in
-      (ap (λ (u : Word). row_more u kid (_, row)) words.0 ∙ ap (λ (s : Shape). row_more v s (_, row)) kids.0 ∙ ap (λ (x : Row). row_more v child x) rest.0, rest.1)
+      (ap (λ (u : Word). record { value = u; tree = kid } ∷ items-the_row-Branch _ row) words.0 ∙ ap (λ (s : Shape). record { value = v; tree = s } ∷ items-the_row-Branch _ row) kids.0
+      ∙ ap (λ (bs : List Branch). record { value = v; tree = child } ∷ bs) rest.0, rest.1)
 
 tree_same : (file : List ℕ) (q : Quantity) (n : ℕ) (s v : Shape) (a b c d : List Token) → a ≡ b → IsTree file q n s a c → IsTree file q n v b d → (s ≡ v) × (c ≡ d)
 tree_same file q n s v a b c d same l r = inside_same file q n s v l.b r.b c d (one_same Open a b l.b r.b same l.opens r.opens) l.inside r.inside
