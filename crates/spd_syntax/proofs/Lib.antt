@@ -1,5 +1,7 @@
 mod Moves
 mod TreeMoves
-mod FileMoves
-mod Accepted
-mod Unique
+pub mod FileMoves
+pub mod Accepted
+pub mod Unique
+mod FrontLaws
+pub mod CallerLemmas
