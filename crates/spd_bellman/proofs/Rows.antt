@@ -10,7 +10,7 @@ use Rattle.spd_model.specs.States.{sizes, states, at, sum_over_states}
 use Rattle.spd_model.specs.Chances.{joint, scale_of}
 use Rattle.spd_model.specs.Backup.{low_of, high_of, policy_of}
 use Rattle.spd_model.specs.Turns.{turn, residual_of}
-use Rattle.spd_bellman.specs.TurnBound.{residual_at, added_by_turn, is_enough}
+use Rattle.spd_bellman.specs.TurnBound.{residual_at, added_by_turn, is_enough, leaves_room}
 use Rattle.spd_bellman.specs.Courses.{Course, stop, act, always, exact_return, return_of_course, return_of_policy}
 
 abbrev leaf : ℕ → Tree
@@ -95,6 +95,11 @@ enough-keeping : map (is_enough keeping (pos 0)) (0 ∷ 1 ∷ 2 ∷ 3 ∷ 4 ∷ 
     ≡ false ∷ false ∷ false ∷ false ∷ false ∷ true ∷ true ∷ []
 unfolding shape-the_row-Tree-0 hidden-the_row-Tree-0 denote.Hole.Carrier.hidden
 enough-keeping = refl
+
+-- its tolerance leaves room up to a span of 12,499,996 units
+room-keeping : map (leaves_room keeping) (pos 0 ∷ pos 12499996 ∷ pos 12499997 ∷ []) ≡ true ∷ true ∷ false ∷ []
+unfolding shape-the_row-Tree-0 hidden-the_row-Tree-0 denote.Hole.Carrier.hidden
+room-keeping = refl
 
 -- with discount 0 turn 0 is enough where the tolerance is at least 2 * 6 + 2 * 2 units
 abbrev keeping_once : ℕ → Process

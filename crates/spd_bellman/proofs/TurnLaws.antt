@@ -1,5 +1,5 @@
 -- How the residual shrinks from turn to turn, and how many turns are enough.
-use Rattle.std.proofs.Common.{◌≡◌, ◌⊎◌, inl, inr, ℕ, zero, suc, ◌+◌, ◌-◌, ◌*◌, ◌^◌, ◌<◌, ◌≤◌, true, List, length, map, get_or, ℤ, pos, ◌+ℤ◌, ◌-ℤ◌, ◌*ℤ◌, ◌≤ℤ◌, ◌<ℤ◌, int_le, refl, ap, sym, ◌∙◌, subst, subst₂, arith}
+use Rattle.std.proofs.Common.{◌≡◌, ◌⊎◌, inl, inr, ℕ, zero, suc, ◌+◌, ◌-◌, ◌*◌, ◌^◌, ◌<◌, ◌≤◌, true, List, length, map, get_or, ℤ, pos, negsuc, unsigned_abs, ◌+ℤ◌, ◌-ℤ◌, ◌*ℤ◌, ◌≤ℤ◌, ◌<ℤ◌, int_le, refl, ap, sym, ◌∙◌, subst, subst₂, arith}
 use Rattle.std.specs.Int.{int_max}
 use Rattle.std.proofs.lemmas.Bool.{cases_lt, false≢true}
 use Rattle.std.proofs.lemmas.Int.{ints, int_max_is, fold-int_max_reached}
@@ -7,7 +7,7 @@ use Rattle.std.proofs.lemmas.List.{get_or-map}
 use Rattle.std.proofs.lemmas.List.Elements.{All-contains}
 use Rattle.std.proofs.Math.Nat.{pow-zero, pow-suc, one-le-pow}
 use Rattle.spd_scaled.specs.Scaled.{floor_div, ceil_div}
-use Rattle.spd_scaled.proofs.CallerLemmas.Ring.{ring, zero-*ℤ, *ℤ_comm, *ℤ_mono, *ℤ_mono_right, *ℤ_nonnegative, *ℤ_cancel_≤ℤ}
+use Rattle.spd_scaled.proofs.CallerLemmas.Ring.{ring, int_lt-true, zero-*ℤ, *ℤ_comm, *ℤ_mono, *ℤ_mono_right, *ℤ_nonnegative, *ℤ_cancel_≤ℤ}
 use Rattle.spd_scaled.proofs.CallerLemmas.DivisionLaws.{floor_div_at_most, floor_div_next_above, ceil_div_at_least, ceil_div_last_below, ceil_div_greatest}
 use Rattle.spd_model.specs.declared.Why.{Why}
 use Rattle.spd_model.specs.declared.Why.TheVariants.{Done, Limit}
@@ -19,7 +19,7 @@ use Rattle.spd_model.specs.Ranges.{Range, in_order, groups_of, value_in}
 use Rattle.spd_model.specs.Turns.{ranges_of, turn, gap_above, gap_below, residual_of, rule_at, stop_of}
 use Rattle.spd_model.proofs.CallerLemmas.Gaps.{gap_at, gap_at_most, best_ordered, residual_nonnegative}
 use Rattle.spd_model.proofs.CallerLemmas.StateOrder.{All-table_of, get_or-states, rank_below, get_or-table_of, length-table_of}
-use Rattle.spd_bellman.specs.TurnBound.{residual_at, added_by_turn, is_enough}
+use Rattle.spd_bellman.specs.TurnBound.{residual_at, added_by_turn, error_that_stays, error_allowed, is_enough, leaves_room}
 use Rattle.spd_bellman.proofs.StopLaws.{is_first_stop}
 use Rattle.spd_bellman.proofs.Merges.{IsMiddle, IsNarrow, merged_middle}
 use Rattle.spd_bellman.proofs.Changes.{natural, floors_near, ceils_near, bounds_near, best_near}
@@ -238,7 +238,7 @@ begun e r d w some more = let added = *ℤ_nonnegative d w some more in simp rin
 
 -- with a discount of one or more no turn is enough; t is 2
 none_enough : (t d e p q first w n tolerance : ℤ) → e ≡ pos 0 → pos 0 <ℤ t → pos 0 <ℤ d → pos 0 <ℤ p → pos 0 <ℤ w
-    → (t *ℤ d *ℤ e *ℤ q *ℤ first +ℤ p *ℤ (t *ℤ d *ℤ d *ℤ w +ℤ t *ℤ d *ℤ e *ℤ n)) ≤ℤ (p *ℤ tolerance *ℤ (e *ℤ e)) → ⊥
+    → (t *ℤ d *ℤ e *ℤ q *ℤ first +ℤ p *ℤ (t *ℤ d *ℤ d *ℤ w +ℤ t *ℤ d *ℤ e *ℤ n)) ≤ℤ (p *ℤ (tolerance *ℤ (e *ℤ e))) → ⊥
 none_enough t d e p q first w n tolerance none two one power some h =
     let left = *ℤ_positive p _ power (*ℤ_positive t _ two (*ℤ_positive d _ one (*ℤ_positive d w one some))) in
     let h' = simp ring at (rw none at h) in
@@ -248,7 +248,7 @@ none_enough t d e p q first w n tolerance none two one power some h =
 -- the rule holds at a turn that is enough
 enough_step : (t d e p q first here w n tolerance : ℤ) → pos 0 ≤ℤ t → pos 0 ≤ℤ d → pos 0 <ℤ e → pos 0 <ℤ p → pos 0 ≤ℤ n
     → ((e *ℤ p) *ℤ here) ≤ℤ ((e *ℤ q) *ℤ first +ℤ (p *ℤ d) *ℤ w)
-    → (t *ℤ d *ℤ e *ℤ q *ℤ first +ℤ p *ℤ (t *ℤ d *ℤ d *ℤ w +ℤ t *ℤ d *ℤ e *ℤ n)) ≤ℤ (p *ℤ tolerance *ℤ (e *ℤ e))
+    → (t *ℤ d *ℤ e *ℤ q *ℤ first +ℤ p *ℤ (t *ℤ d *ℤ d *ℤ w +ℤ t *ℤ d *ℤ e *ℤ n)) ≤ℤ (p *ℤ (tolerance *ℤ (e *ℤ e)))
     → (t *ℤ here *ℤ d) ≤ℤ (tolerance *ℤ e)
 enough_step t d e p q first here w n tolerance two one rest power many before h =
     let weight = *ℤ_nonnegative t d two one in
@@ -266,6 +266,45 @@ le_holds x y h = grind (arith, ints)
 
 power_positive : (n k : ℕ) → 0 < n → pos 0 <ℤ pos (n ^ k)
 power_positive n k some = let power : 1 ≤ n ^ k = one-le-pow k n some in omega (arith, ints)
+
+-- a power of g falls behind that of d: e is their difference, and p and q are the k-th powers
+falls_step : (d g e p q k : ℤ) → d ≡ g +ℤ e → pos 0 ≤ℤ g → pos 0 ≤ℤ e → pos 0 ≤ℤ q → pos 0 ≤ℤ k → ((k *ℤ e +ℤ g) *ℤ q) ≤ℤ (g *ℤ p)
+    → (((k +ℤ pos 1) *ℤ e +ℤ g) *ℤ (q *ℤ g)) ≤ℤ (g *ℤ (p *ℤ d))
+falls_step d g e p q k is some rest power many h =
+    let more = *ℤ_mono_right d _ _ (omega (arith, ints)) h in
+    let left = *ℤ_nonnegative q _ power (*ℤ_nonnegative k _ many (*ℤ_nonnegative e e rest rest)) in
+    let more' = simp ring at (rw is at more) in
+    let left' = simp ring at left in
+    rw is (simp ring (omega (arith, ints)))
+
+-- so the first residual's share is at most one part where k is 2 * d * d times that residual
+share_step : (t d g e p q first allowed stays : ℤ) → d ≡ g +ℤ e → pos 0 ≤ℤ g → pos 0 ≤ℤ e → pos 0 <ℤ d → pos 0 ≤ℤ p → pos 0 ≤ℤ q
+    → stays <ℤ allowed → (((t *ℤ d *ℤ d *ℤ first) *ℤ e +ℤ g) *ℤ q) ≤ℤ (g *ℤ p)
+    → (t *ℤ d *ℤ e *ℤ q *ℤ first +ℤ p *ℤ stays) ≤ℤ (p *ℤ allowed)
+share_step t d g e p q first allowed stays is some rest one power power' room h =
+    let drop = *ℤ_nonnegative g q some power' in
+    let more = *ℤ_nonnegative e p rest power in
+    let share : (t *ℤ d *ℤ e *ℤ q *ℤ first) ≤ℤ p =
+    *ℤ_cancel_≤ℤ (t *ℤ d *ℤ e *ℤ q *ℤ first) p d one
+    (let h' = simp ring at h in let e' : p *ℤ d ≡ g *ℤ p +ℤ e *ℤ p = rw is (simp ring) in rw e' (simp ring (omega (arith, ints)))) in
+    let rise = *ℤ_mono_right p (stays +ℤ pos 1) allowed power (omega (arith, ints)) in
+    let rise' = simp ring at rise in
+    omega (arith, ints)
+
+-- nor is there room
+no_room : (t d e w n tolerance : ℤ) → e ≡ pos 0 → pos 0 <ℤ t → pos 0 <ℤ d → pos 0 <ℤ w
+    → (t *ℤ d *ℤ d *ℤ w +ℤ t *ℤ d *ℤ e *ℤ n) <ℤ (tolerance *ℤ (e *ℤ e)) → ⊥
+no_room t d e w n tolerance none two one some h =
+    let left = *ℤ_positive t _ two (*ℤ_positive d _ one (*ℤ_positive d w one some)) in
+    let h' = simp ring at (rw none at h) in
+    omega (arith, ints)
+
+natural_of : (x : ℤ) → pos 0 ≤ℤ x → x ≡ pos (unsigned_abs x)
+natural_of (pos x) h = refl
+natural_of (negsuc x) h = absurd h.le
+
+falls_begun : (e g : ℤ) → pos 0 ≤ℤ g → ((pos 0 *ℤ e +ℤ g) *ℤ pos 1) ≤ℤ (g *ℤ pos 1)
+falls_begun e g some = simp ring (omega (arith, ints))
 
 reasons : (why : Why) → (why ≡ Done) ⊎ (why ≡ Limit)
 reasons Done = inl refl
@@ -316,7 +355,6 @@ module _ (m : Process) (valid : IsValid m) (span : ℤ) where
             (none_enough (pos 2) (pos discount_one) rest p q first added n m.tolerance (omega (arith, ints)) two_above discount_above power added_some holds)
       ]
 
-  -- and no turn before the stop is enough, and a run whose limit is no smaller stops as done
   pub enough_stops : (k turns : ℕ) → is_enough m span k ≡ true → (stop_of m turns span).turn ≤ k
   enough_stops k turns h =
       let stop = is_first_stop (rule_at m span) turns in
@@ -334,4 +372,39 @@ module _ (m : Process) (valid : IsValid m) (span : ℤ) where
             let at_limit = stop.limit limit in
             let last : (stop_of m turns span).turn ≡ k = omega (arith, at_limit.0, enough_stops k turns h) in
             absurd (false≢true (sym at_limit.1 ∙ ap (rule_at m span) last ∙ enough_holds k h))
+      ]
+
+  discount_falls : m.discount ≤ discount_one → (k : ℕ)
+      → ((pos k *ℤ rest +ℤ pos m.discount) *ℤ pos (m.discount ^ k)) ≤ℤ (pos m.discount *ℤ pos (discount_one ^ k))
+  discount_falls most zero =
+      subst₂ (λ p q. ((pos 0 *ℤ rest +ℤ pos m.discount) *ℤ q) ≤ℤ (pos m.discount *ℤ p)) (sym (ap pos (pow-zero discount_one)))
+      (sym (ap pos (pow-zero m.discount)))
+      (falls_begun rest (pos m.discount) (natural m.discount))
+  discount_falls most (suc k) =
+      let one_more : pos k +ℤ pos 1 ≡ pos (suc k) = omega (arith, ints) in
+      subst (λ n. ((n *ℤ rest +ℤ pos m.discount) *ℤ pos (m.discount ^ suc k)) ≤ℤ (pos m.discount *ℤ pos (discount_one ^ suc k))) one_more
+      (subst₂ (λ p q. (((pos k +ℤ pos 1) *ℤ rest +ℤ pos m.discount) *ℤ q) ≤ℤ (pos m.discount *ℤ p)) (sym (ap pos (pow-suc discount_one k)))
+      (sym (ap pos (pow-suc m.discount k)))
+      (falls_step (pos discount_one) (pos m.discount) rest (pos (discount_one ^ k)) (pos (m.discount ^ k)) (pos k) (omega (arith, ints))
+      (natural m.discount) (natural (discount_one - m.discount)) (natural (m.discount ^ k)) (natural k) (discount_falls most k)))
+
+  pub some_enough : leaves_room m span ≡ true → (k : ℕ) × (is_enough m span k ≡ true)
+  some_enough h =
+      let room = int_lt-true (error_that_stays m span) (error_allowed m) h in
+      let times = unsigned_abs first in
+      let k = 2 * discount_one * discount_one * times in
+      let p = pos (discount_one ^ k) in
+      let q = pos (m.discount ^ k) in
+      let is : first ≡ pos times = natural_of first (residual_nonnegative m (at (sizes m) (turn m span 0))) in
+      elim (cases_lt m.discount discount_one) [
+        | inl less ↦ (
+          k,
+          le_holds _ _
+              (share_step (pos 2) (pos discount_one) (pos m.discount) rest p q first (error_allowed m) (error_that_stays m span) (omega (arith, ints))
+              (natural m.discount) (natural (discount_one - m.discount)) discount_above (natural (discount_one ^ k)) (natural (m.discount ^ k)) room
+              (subst (λ x. ((pos 2 *ℤ pos discount_one *ℤ pos discount_one *ℤ x *ℤ rest +ℤ pos m.discount) *ℤ q) ≤ℤ (pos m.discount *ℤ p)) (sym is)
+              (discount_falls (omega arith) k))),
+        )
+        | inr more ↦ absurd
+            (no_room (pos 2) (pos discount_one) rest added (pos (length m.vars + 1)) m.tolerance (omega (arith, ints)) two_above discount_above added_some room)
       ]

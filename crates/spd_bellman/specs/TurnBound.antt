@@ -1,5 +1,5 @@
 -- How many turns are enough: a bound that is known after turn 0, from its residual, the discount, the span and the tolerance.
-use Rattle.std.specs.Prelude.{ℕ, ◌+◌, ◌-◌, ◌*◌, ◌^◌, Bool, ℤ, pos, ◌+ℤ◌, ◌*ℤ◌, int_le, length}
+use Rattle.std.specs.Prelude.{ℕ, ◌+◌, ◌-◌, ◌*◌, ◌^◌, Bool, ℤ, pos, ◌+ℤ◌, ◌*ℤ◌, int_le, int_lt, length}
 use Rattle.std.specs.Int.{int_max}
 use Rattle.spd_model.specs.Process.{Process}
 use Rattle.spd_model.specs.States.{sizes, at}
@@ -16,15 +16,27 @@ residual_at m span k = residual_of m (at (sizes m) (turn m span k))
 abbrev pub added_by_turn : Process → ℤ → ℤ
 added_by_turn m span = int_max span (pos (2 * length m.vars + 2)) +ℤ pos 2
 
--- Turn k is enough: with w what a turn may add and N variables,
--- 2 * discount^k * r(0) + 2 * w / (1 - discount) + 2 * (N + 1) <= tolerance * (1 - discount), where both sides are multiplied by
--- 1 - discount, and by the 10^6 of each discount.
+-- The error that stays: 2 * w / (1 - discount) + 2 * (N + 1), with w what a turn may add and N variables, in parts of which
+-- 10^12 * (1 - discount) make one.
+abbrev pub error_that_stays : Process → ℤ → ℤ
+error_that_stays m span =
+    let one = pos discount_one in
+    pos 2 *ℤ one *ℤ one *ℤ added_by_turn m span +ℤ pos 2 *ℤ one *ℤ pos (discount_one - m.discount) *ℤ pos (length m.vars + 1)
+
+-- tolerance * (1 - discount), in the same parts
+abbrev pub error_allowed : Process → ℤ
+error_allowed m = let rest = pos (discount_one - m.discount) in m.tolerance *ℤ (rest *ℤ rest)
+
+-- Turn k is enough: 2 * discount^k * r(0) and the error that stays are at most tolerance * (1 - discount), where both sides are
+-- multiplied by 10^6 to the power of k.
 abbrev pub is_enough : Process → ℤ → ℕ → Bool
 is_enough m span k =
-    let rest = pos (discount_one - m.discount) in
     let one = pos discount_one in
     let power = pos (discount_one ^ k) in
     int_le
-    (pos 2 *ℤ one *ℤ rest *ℤ pos (m.discount ^ k) *ℤ residual_at m span 0
-    +ℤ power *ℤ (pos 2 *ℤ one *ℤ one *ℤ added_by_turn m span +ℤ pos 2 *ℤ one *ℤ rest *ℤ pos (length m.vars + 1)))
-    (power *ℤ m.tolerance *ℤ (rest *ℤ rest))
+    (pos 2 *ℤ one *ℤ pos (discount_one - m.discount) *ℤ pos (m.discount ^ k) *ℤ residual_at m span 0 +ℤ power *ℤ error_that_stays m span)
+    (power *ℤ error_allowed m)
+
+-- the error that stays leaves room for more
+abbrev pub leaves_room : Process → ℤ → Bool
+leaves_room m span = int_lt (error_that_stays m span) (error_allowed m)

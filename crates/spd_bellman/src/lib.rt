@@ -20,7 +20,7 @@ ghost use Rattle.spd_scaled.specs.Scaled.{IsWithin};
 ghost use Rattle.spd_bellman.specs.Courses.{IsPolicy, IsAmongCourses, exact_return};
 ghost use Rattle.spd_bellman.specs.Certificate.{Holds};
 ghost use Rattle.spd_bellman.specs.Bound.{IsBoundAbove, IsBoundBelow, IsPolicyNear, IsNearOptimal};
-ghost use Rattle.spd_bellman.specs.TurnBound.{residual_at, added_by_turn, is_enough};
+ghost use Rattle.spd_bellman.specs.TurnBound.{residual_at, added_by_turn, is_enough, leaves_room};
 
 /// The joint probabilities of all next states are at least 0, and sum to one.
 ///
@@ -87,7 +87,8 @@ pub fn law_stop()
 {}
 
 /// The residual shrinks from turn to turn by the discount, but for what merging and rounding may add. So the stop rule holds at each
-/// turn that is enough, the run stops no later, and it is done unless its limit comes before.
+/// turn that is enough, the run stops no later, and it is done unless its limit comes before. Where the tolerance leaves room for the
+/// error that stays, some turn is enough.
 pub fn law_turns()
     ensures shrinks { (m : Process) → IsValid m → m.discount ≤ discount_one → (span : ℤ) (k : ℕ)
         → (pos discount_one *ℤ residual_at m span (suc k)) ≤ℤ (pos m.discount *ℤ residual_at m span k +ℤ pos discount_one *ℤ added_by_turn m span) }
@@ -96,4 +97,5 @@ pub fn law_turns()
         → (stop_of m turns span).turn ≤ k }
     ensures done { (m : Process) → IsValid m → (span : ℤ) (k turns : ℕ) → is_enough m span k ≡ true → k ≤ turns
         → (stop_of m turns span).why ≡ Done }
+    ensures some { (m : Process) → IsValid m → (span : ℤ) → leaves_room m span ≡ true → (k : ℕ) × (is_enough m span k ≡ true) }
 {}

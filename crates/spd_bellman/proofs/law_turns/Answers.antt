@@ -1,6 +1,6 @@
 use Rattle.spd_model.specs.States.{sizes, at}
 use Rattle.spd_model.specs.Turns.{turn}
-use Rattle.spd_bellman.proofs.TurnLaws.{shrinks, enough_holds, enough_stops, enough_done}
+use Rattle.spd_bellman.proofs.TurnLaws.{shrinks, enough_holds, enough_stops, enough_done, some_enough}
 use Rattle.spd_bellman.proofs.law_turns.Goals as goal
 
 pub returns-clause-shrinks : goal.returns-clause-shrinks
@@ -14,3 +14,6 @@ returns-clause-stops c = enough_stops
 
 pub returns-clause-done : goal.returns-clause-done
 returns-clause-done c = enough_done
+
+pub returns-clause-some : goal.returns-clause-some
+returns-clause-some c = some_enough
