@@ -1,10 +1,10 @@
-use Rattle.std.proofs.Common.{◌≡◌, ◌∙◌, sym, ap, subst, arith, true, false, length, ◌++◌, ◌∷◌, [], Ok, Err, cond, refl, get_or, List, ℕ}
+use Rattle.std.proofs.Common.{◌≡◌, ◌∙◌, sym, ap, subst, arith, true, false, ◌∷◌, [], Ok, Err, refl, get_or, List, ℕ}
 use Rattle.spd_lex.specs.declared.token.Token.{Token}
-use Rattle.spd_lex.specs.declared.token.Kind.TheVariants.{Open, Close, Word as WordKind}
+use Rattle.spd_lex.specs.declared.token.Kind.TheVariants.{Open, Word as WordKind}
 use Rattle.spd_syntax.specs.declared.refusal.Refusal.TheVariants.{Expected, TooMany}
 use Rattle.spd_syntax.specs.declared.refusal.What.TheVariants.{Nesting}
 use Rattle.spd_syntax.specs.declared.refusal.Want.TheVariants as wants
-use Rattle.spd_syntax.specs.Grammar.{HaveBranches, IsInside, IsHead, IsValue}
+use Rattle.spd_syntax.specs.Grammar.{HaveBranches, IsInside, IsValue}
 use Rattle.spd_syntax.specs.Words.{value_passes, name_passes, is_number_word, is_primed, text_of, unmarked, front_of}
 use Rattle.spd_syntax.specs.Numbers.{number_of}
 use Rattle.spd_syntax.specs.Positions.{tree, inside, branch_value}

@@ -1,8 +1,8 @@
-use Rattle.std.proofs.Common.{◌≡◌, ◌∙◌, ◌++◌, ◌∷◌, ◌≤◌, [], List, length, sym, subst, true, false, arith}
+use Rattle.std.proofs.Common.{◌≡◌, ◌∙◌, ◌++◌, ◌∷◌, ◌≤◌, [], List, length, sym, subst, arith}
 use Rattle.spd_lex.specs.declared.token.Token.{Token}
 use Rattle.spd_syntax.specs.declared.file.Counts.{Counts}
 use Rattle.spd_syntax.specs.declared.file.Section.{Section}
-use Rattle.spd_syntax.specs.Positions.{section, has_all}
+use Rattle.spd_syntax.specs.Positions.{section}
 use Rattle.spd_syntax.specs.Files.{AreSections}
 use Rattle.spd_syntax.proofs.Moves.{same_exit, fails_after}
 use Rattle.spd_syntax.proofs.FileMoves.{sections_move, sections_more, sections_lack, section_keeps, none_left}
