@@ -1,5 +1,5 @@
 -- Each step keeps the rule of a board.
-use Rattle.std.proofs.Common.{◌≡◌, ◌≢◌, ℕ, zero, suc, ◌+◌, List, [], ◌∷◌, ◌++◌, set, refl, sym, ap, ◌∙◌, subst, ⊎_elim, arith}
+use Rattle.std.proofs.Common.{◌≡◌, ◌≢◌, ℕ, zero, suc, ◌+◌, List, [], ◌∷◌, ◌++◌, set, refl, sym, ◌∙◌, subst, ⊎_elim}
 use mathlib.Core.Option.{some, some-ne-none, some-injective}
 use lib.ListN.{get_elem?}
 use Rattle.std.specs.Arc.{arc_value}
@@ -7,7 +7,7 @@ use Rattle.crossbeam_utils.specs.Register.{Admits, TurnsAt, Turns}
 use Rattle.atomic_table.proofs.Lists.{at_set, at_snoc}
 use Rattle.spd_board.specs.declared.item.Shown.{Shown}
 use Rattle.spd_board.specs.declared.item.View.{View}
-use Rattle.spd_board.specs.Board.{GoesOn, EndsIn, IsNumbered, nothing_seen, IsBoard, Enters, Publishes}
+use Rattle.spd_board.specs.Board.{GoesOn, nothing_seen, IsBoard, Enters, Publishes}
 use Rattle.spd_board.proofs.Lists.{front-same, front-longer, newest-number, numbered-snoc, numbered-one}
 
 module _ {T : Type 0} (nr : T → ℕ) where

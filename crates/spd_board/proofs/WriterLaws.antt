@@ -1,10 +1,10 @@
 -- What a writer keeps when it publishes.
-use Rattle.std.proofs.Common.{◌≡◌, ◌<◌, ◌+◌, ℕ, List, [], ◌∷◌, ◌++◌, length, Ok, Err, Result, refl, sym, ap, ◌∙◌, subst, arith}
+use Rattle.std.proofs.Common.{◌≡◌, ℕ, List, [], ◌∷◌, ◌++◌, length, Ok, Err, Result, refl, sym, ap, ◌∙◌, subst}
 use Rattle.std.specs.Prelude.{MatchResult, is_err, false}
 use Rattle.std.specs.Arc.{arc_value}
 use Rattle.spd_board.specs.declared.item.Shown.{Shown}
 use Rattle.spd_board.specs.declared.item.View.{View}
-use Rattle.spd_board.specs.Board.{GoesOn, EndsIn, IsNumbered, Publishes}
+use Rattle.spd_board.specs.Board.{Publishes}
 use Rattle.spd_board.specs.inner.Inside.{published_with, IsWhole}
 use Rattle.spd_board.proofs.Lists.{published_with-snoc, numbered-snoc, all-published}
 

@@ -3,6 +3,7 @@
 ghost use Rattle.std.specs.Prelude.{◌≡◌, ◌++◌, [], ◌∷◌, length, drop, false, MatchResult, OnOk, OnErr};
 ghost use Rattle.std.specs.Arc.{arc_value};
 ghost use Rattle.left_right.specs.Sides.{view as view_of};
+ghost use Rattle.spd_board.specs.Board.{EndsIn};
 ghost use Rattle.spd_board.specs.inner.Inside.{published_with, IsWhole};
 
 use crate::Memory;
@@ -74,6 +75,16 @@ impl<T: Drop + Numbered> Writer<T> {
         ensures { result ≡ self.now.refused }
     {
         self.refused
+    }
+
+    /// The item that was published last.
+    pub fn newest(&self) -> &T
+        ensures { EndsIn self.now.published result.now }
+    {
+        match &self.end {
+            Some(end) => &end.published().item,
+            None => unreachable!(),
+        }
     }
 
     /// Publishes the next item, whose number is the one after that of the item before. It may wait for a reader that is inside.

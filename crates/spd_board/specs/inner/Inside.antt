@@ -1,5 +1,5 @@
 -- What the ends of a board keep.
-use Rattle.std.specs.Prelude.{◌≡◌, ℕ, ◌≤◌, ◌⊎◌, List, [], ◌∷◌, Option, None, Some, slice_get}
+use Rattle.std.specs.Prelude.{◌≡◌, ℕ, ◌⊎◌, List, [], ◌∷◌, Option, None, Some, slice_get}
 use Rattle.spd_board.specs.Board.{GoesOn, EndsIn, IsNumbered}
 use Rattle.spd_board.specs.Ends.{Reading}
 

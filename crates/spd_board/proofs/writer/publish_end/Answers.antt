@@ -1,7 +1,5 @@
-use Rattle.std.proofs.Common.{◌≡◌, ◌+◌, ◌++◌, [], ◌∷◌, List, fold, drop, ap, sym, ◌∙◌, subst}
+use Rattle.std.proofs.Common.{◌≡◌, ◌+◌, ◌++◌, [], ◌∷◌, fold, ap, sym, ◌∙◌}
 use Rattle.std.specs.Arc.{arc_value}
-use Rattle.std.specs.Prelude.{MatchResult}
-use Rattle.spd_board.specs.Board.{Publishes}
 use Rattle.left_right.specs.Sides.{view}
 use Rattle.spd_board.proofs.Lists.{newest-number}
 use Rattle.spd_board.proofs.Steps.{publishes}
