@@ -1,10 +1,10 @@
-use Rattle.std.proofs.Common.{◌≡◌, ◌∙◌, sym, ap, subst, arith, true, false, length, ◌++◌, ◌∷◌, [], Ok, Err, cond, refl, get_or, List, ℕ}
+use Rattle.std.proofs.Common.{◌≡◌, ◌∙◌, sym, ap, subst, arith, true, false, ◌∷◌, [], Ok, Err, refl, get_or, List, ℕ}
 use Rattle.spd_lex.specs.declared.token.Token.{Token}
-use Rattle.spd_lex.specs.declared.token.Kind.TheVariants.{Open, Close, Word as WordKind}
+use Rattle.spd_lex.specs.declared.token.Kind.TheVariants.{Open, Word as WordKind}
 use Rattle.spd_syntax.specs.declared.refusal.Refusal.TheVariants.{Expected, TooMany}
 use Rattle.spd_syntax.specs.declared.refusal.What.TheVariants.{Nesting}
 use Rattle.spd_syntax.specs.declared.refusal.Want.TheVariants as wants
-use Rattle.spd_syntax.specs.Grammar.{HaveBranches, IsInside, IsHead, IsValue}
+use Rattle.spd_syntax.specs.Grammar.{HaveBranches, IsInside, IsValue}
 use Rattle.spd_syntax.specs.Words.{value_passes, name_passes, is_number_word, is_primed, text_of, unmarked, front_of}
 use Rattle.spd_syntax.specs.Numbers.{number_of}
 use Rattle.spd_syntax.specs.Positions.{tree, inside, branch_value}
@@ -186,7 +186,7 @@ tree-returns-then-n-ge300-clause-err t c =
     let file = c.args.self.now.file.now in
     let one = c.in_ok-rest.ensures.ok in
     let place : (get_or c.args.tokens.now 0 (record { kind = Open; from = 0; to = 0 })).from ≡ one.token.from =
-        ap (λ (ts : List Token). (get_or {A = Token} ts 0 (record { kind = Open; from = 0; to = 0 })).from) one.first in
+    ap (λ (ts : List Token). (get_or {A = Token} ts 0 (record { kind = Open; from = 0; to = 0 })).from) one.first in
     subst (λ (at : ℕ). Faults file (tree c.args.quantity c.args.n ∷ []) c.args.tokens.now (TooMany at Nesting)) (sym place)
     (too_deep file c.args.quantity c.args.n c.args.tokens.now c.in_ok-rest.rest.now (omega arith) one)
 

@@ -1,4 +1,3 @@
-use Rattle.std.proofs.Common.{◌∷◌, []}
 use Rattle.spd_syntax.proofs.Moves.{err_map}
 use Rattle.spd_syntax.proofs.FileMoves.{sum_of_trees}
 use Rattle.spd_syntax.proofs.reader.Reader.sum.Goals as goal
