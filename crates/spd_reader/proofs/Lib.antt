@@ -1,0 +1,6 @@
+pub mod LawfulLists
+pub mod LawfulTokens
+pub mod LawfulNames
+pub mod LawfulNumbers
+pub mod LawfulParts
+pub mod LawfulTrees
