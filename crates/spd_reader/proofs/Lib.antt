@@ -4,3 +4,5 @@ pub mod LawfulNames
 pub mod LawfulNumbers
 pub mod LawfulParts
 pub mod LawfulTrees
+pub mod LawfulDiagrams
+pub mod LawfulActions
