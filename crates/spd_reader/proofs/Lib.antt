@@ -6,3 +6,5 @@ pub mod LawfulParts
 pub mod LawfulTrees
 pub mod LawfulDiagrams
 pub mod LawfulActions
+pub mod LawfulVariables
+pub mod LawfulSections
