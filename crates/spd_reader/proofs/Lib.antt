@@ -8,3 +8,4 @@ pub mod LawfulDiagrams
 pub mod LawfulActions
 pub mod LawfulVariables
 pub mod LawfulSections
+pub mod Lawful
