@@ -1,11 +1,10 @@
 -- A file without a fault of its names means a lawful model.
-use Rattle.std.proofs.Common.{◌≡◌, ℕ, ◌+◌, ◌<◌, ◌≤◌, ◌^◌, Bool, true, false, List, [], ◌∷◌, ◌++◌, length, Option, Some, None, All, refl, sym, ap, subst, ◌∙◌, arith, ℤ, pos, ◌≤ℤ◌}
-use Rattle.std.specs.Prelude.{◌&&◌, nat_lt, if◌then◌else◌, IfSome, unwrap_or, unsigned_abs}
+use Rattle.std.proofs.Common.{◌≡◌, ℕ, ◌<◌, ◌≤◌, ◌^◌, Bool, true, false, List, [], ◌∷◌, ◌++◌, length, Option, Some, None, All, refl, sym, ◌∙◌, arith, ℤ, pos, ◌≤ℤ◌}
+use Rattle.std.specs.Prelude.{nat_lt, if◌then◌else◌, IfSome, unwrap_or, unsigned_abs}
 use Rattle.std.specs.Option.{option_map}
 use Rattle.std.proofs.lemmas.Bool.{and_parts, ltb-true}
 use Rattle.std.proofs.lemmas.Int.{ints}
 use Rattle.std.proofs.lemmas.List.Elements.{All-nil}
-use Rattle.spd_lex.specs.declared.token.Token.{Token}
 use Rattle.spd_lex.specs.Tokens.{tokens_of}
 use Rattle.spd_model.specs.declared.tree.Tree.{Tree}
 use Rattle.spd_model.specs.declared.process.Var.{Var}
@@ -21,7 +20,7 @@ use Rattle.spd_syntax.specs.declared.file.Section.{Section}
 use Rattle.spd_syntax.specs.declared.file.Section.TheVariants as sections
 use Rattle.spd_syntax.specs.Words.{text_of}
 use Rattle.spd_reader.specs.Trees.{Scope, is_among, meaning}
-use Rattle.spd_reader.specs.Models.{Said, with_dd, with_setting, with_section, variables_of, variables_faults, sections_of, sections_faults, nothing_said, said_of, faults_of, process_of, model_of}
+use Rattle.spd_reader.specs.Models.{Said, with_dd, with_setting, with_section, variables_of, variables_faults, sections_of, sections_faults, nothing_said, said_of, faults_of, model_of}
 use Rattle.spd_reader.proofs.LawfulLists.{none-append}
 use Rattle.spd_reader.proofs.LawfulSections.{Kept, sections-kept}
 use Rattle.spd_reader.proofs.LawfulTokens.{tokens_of-length, bracket-shorter, first-shorter, variables-length}
@@ -99,14 +98,14 @@ module _ (file : List ℕ) (f : File) (short : length file ≤ 4194304) (w : IsF
 
   few-tokens : length w.e ≤ 4194304
   few-tokens = omega (
-      arith,
-      short,
-      tokens_of-length file,
-      bracket-shorter _ (tokens_of file) w.a w.opens,
-      first-shorter w.word w.a w.b w.key.word,
-      variables-length file none_yet w.counts f.variables w.b w.d w.variables,
-      bracket-shorter _ w.d w.e w.closes,
-    )
+    arith,
+    short,
+    tokens_of-length file,
+    bracket-shorter _ (tokens_of file) w.a w.opens,
+    first-shorter w.word w.a w.b w.key.word,
+    variables-length file none_yet w.counts f.variables w.b w.d w.variables,
+    bracket-shorter _ w.d w.e w.closes,
+  )
 
   same-vars : m.vars ≡ vars
   same-vars = sections-vars file (nothing_said vars) f.sections

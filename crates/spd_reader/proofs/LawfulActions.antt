@@ -1,5 +1,5 @@
 -- An action without a fault of its names is one of a lawful model.
-use Rattle.std.proofs.Common.{◌≡◌, ◌≢◌, ℕ, zero, suc, ◌+◌, ◌<◌, ◌≤◌, Bool, true, false, List, [], ◌∷◌, ◌++◌, length, map, get_or, set, Option, Some, None, All, IsTrue, refl, sym, ap, subst, ◌∙◌, arith, inl, inr, pos}
+use Rattle.std.proofs.Common.{◌≡◌, ℕ, zero, suc, ◌+◌, ◌<◌, ◌≤◌, List, [], ◌∷◌, length, get_or, set, Option, Some, None, refl, sym, ap, subst, ◌∙◌, arith, inl, inr, pos}
 use Rattle.std.specs.Prelude.{IfSome, is_some, unwrap_or, slice_index_or}
 use Rattle.std.proofs.lemmas.Bool.{cases_eq}
 use Rattle.std.proofs.Common.{get_or-set_same, get_or-set_other}
@@ -7,7 +7,6 @@ use Rattle.std.proofs.lemmas.List.{length-map, length-set, length-replicate, get
 use Rattle.std.proofs.lemmas.List.Elements.{All-nil, All-replicate}
 use Rattle.spd_lex.specs.declared.token.Token.{Token}
 use Rattle.spd_model.specs.declared.tree.Tree.{Tree, Leaf}
-use Rattle.spd_model.specs.declared.process.Var.{Var}
 use Rattle.spd_model.specs.Lawful.{IsTable, IsReward, AreRewards, IsAction}
 use Rattle.spd_model.specs.Process.{Process}
 use Rattle.spd_model.specs.Trees.{parts, nesting, read_diagrams}
@@ -21,12 +20,12 @@ use Rattle.spd_syntax.specs.Files.{Each, AName, AnItem, AreItems}
 use Rattle.spd_reader.specs.declared.purpose.Purpose.TheVariants.{Table}
 use Rattle.spd_reader.specs.Faults.{when}
 use Rattle.spd_reader.specs.Models.{Items, no_items, with_item, item_faults, items_of, items_faults, missing_faults, action_of, action_faults}
-use Rattle.spd_reader.specs.Trees.{Scope, var_names, var_number, put, trees_of, place_faults, meaning, tree_faults}
+use Rattle.spd_reader.specs.Trees.{Scope, var_number, put, trees_of, place_faults, meaning, tree_faults}
 use Rattle.spd_reader.proofs.LawfulDiagrams.{serves-table, table-tree, part-good}
-use Rattle.spd_reader.proofs.LawfulLists.{none-append, none-when, number-below}
+use Rattle.spd_reader.proofs.LawfulLists.{none-append}
 use Rattle.spd_reader.proofs.LawfulNames.{name-passed}
-use Rattle.spd_reader.proofs.LawfulTokens.{first-shorter, item-shorter}
-use Rattle.spd_reader.proofs.LawfulTrees.{Reads, tree-good, length-put}
+use Rattle.spd_reader.proofs.LawfulTokens.{first-shorter, item-length}
+use Rattle.spd_reader.proofs.LawfulTrees.{Reads, tree-good}
 
 -- each variable has a table where none is missing
 missing-none : (at v : ℕ) (places : List (Option Tree)) → missing_faults at v places ≡ [] → (i : ℕ) → i < length places → (tree : Tree) × (get_or places i None ≡ Some tree)
@@ -86,7 +85,7 @@ module _ (file : List ℕ) (m : Process) (s : Scope) (r : Reads m s (read_diagra
   items-kept t [] a e b h none k = k
   items-kept t (item ∷ its) a e b h none k =
       let q = none-append (item_faults file s t item) (items_faults file s (with_item file s t item) its) none in
-      items-kept (with_item file s t item) its h.0 e (omega (arith, item-shorter file item a h.0 h.1)) h.2 q.1 (item-kept t item a h.0 b h.1 q.0 k)
+      items-kept (with_item file s t item) its h.0 e (omega (arith, item-length file item a h.0 h.1)) h.2 q.1 (item-kept t item a h.0 b h.1 q.0 k)
 
   cost-good : (o : Option (List Tree)) → IfSome o (AreRewards m) → AreRewards m (unwrap_or o [])
   cost-good None h = record { few = omega arith; each = All-nil (IsReward m) }

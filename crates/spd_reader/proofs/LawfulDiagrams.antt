@@ -1,13 +1,13 @@
 -- What decision diagrams come to, as more of them are declared; and trees for their purposes.
-use Rattle.std.proofs.Common.{◌≡◌, ℕ, zero, suc, ◌+◌, ◌*◌, ◌<◌, ◌≤◌, List, [], ◌∷◌, ◌++◌, length, map, get_or, All, refl, sym, ap, subst, ◌∙◌, arith, length-append}
-use Rattle.std.specs.Prelude.{slice_index_or, flat_map}
+use Rattle.std.proofs.Common.{◌≡◌, ℕ, zero, suc, ◌<◌, ◌≤◌, List, [], ◌∷◌, ◌++◌, length, get_or, All, refl, sym, ap, subst, ◌∙◌, arith, length-append}
+use Rattle.std.specs.Prelude.{flat_map}
 use Rattle.std.proofs.lemmas.List.{get_or_append_left, length-map}
-use Rattle.std.proofs.lemmas.List.Elements.{All-nil, All-cons, All-weaker, All-push}
+use Rattle.std.proofs.lemmas.List.Elements.{All-nil, All-cons, All-weaker}
 use Rattle.spd_lex.specs.declared.token.Token.{Token}
 use Rattle.spd_model.specs.declared.tree.Tree.{Tree}
-use Rattle.spd_model.specs.Lawful.{Fits, FitsTable, FitsReward, IsTree as IsModelTree, IsTable, IsReward, AreRewards}
+use Rattle.spd_model.specs.Lawful.{Fits, FitsTable, FitsReward, IsTable, IsReward, AreRewards}
 use Rattle.spd_model.specs.Process.{Process}
-use Rattle.spd_model.specs.Trees.{Reading, Part, missing, parts, nesting, parts_of, read_tree, read_diagrams}
+use Rattle.spd_model.specs.Trees.{Reading, missing, parts, nesting, parts_of, read_tree, read_diagrams}
 use Rattle.spd_model.proofs.CallerLemmas.Trees.{length-read_diagrams}
 use Rattle.spd_syntax.specs.declared.file.Shape.{Shape}
 use Rattle.spd_syntax.specs.declared.file.Quantity.TheVariants as quantities

@@ -1,9 +1,8 @@
 -- What a word that stands for a number of a kind comes to is in that kind's range.
-use Rattle.std.proofs.Common.{◌≡◌, ℕ, suc, ◌+◌, ◌*◌, ◌^◌, ◌<◌, ◌≤◌, ◌%◌, Bool, true, false, List, Result, Ok, Err, Option, Some, None, refl, sym, ap, subst, ◌∙◌, arith, ℤ, pos, negsuc, neg_ℤ, ◌*ℤ◌, ◌≤ℤ◌}
+use Rattle.std.proofs.Common.{◌≡◌, ℕ, ◌*◌, ◌^◌, ◌≤◌, ◌%◌, Bool, true, false, List, Result, Ok, Err, Option, Some, None, refl, sym, ap, subst, ◌∙◌, arith, ℤ, pos, negsuc, neg_ℤ, ◌*ℤ◌, ◌≤ℤ◌}
 use Rattle.std.specs.Prelude.{◌&&◌, ◌||◌, not, if◌then◌else◌, int_lt, unsigned_abs}
 use Rattle.std.proofs.lemmas.Bool.{or_parts}
 use Rattle.std.proofs.lemmas.Int.{ints}
-use Rattle.spd_scaled.specs.Scaled.{IsWithin}
 use Rattle.spd_scaled.specs.declared.decimal.Decimal.{Decimal}
 use Rattle.spd_scaled.specs.declared.decimal.Scale.{Scale}
 use Rattle.spd_scaled.specs.declared.decimal.Scale.TheVariants as scales

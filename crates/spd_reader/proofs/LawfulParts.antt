@@ -1,12 +1,12 @@
 -- What is written in a tree for a purpose: each part fits the model and the purpose, and it nests at most so deep.
-use Rattle.std.proofs.Common.{◌≡◌, ℕ, zero, suc, ◌+◌, ◌-◌, ◌*◌, ◌^◌, ◌<◌, ◌≤◌, ◌%◌, ◌==◌, Bool, true, false, List, [], ◌∷◌, ◌++◌, length, map, get_or, Option, Some, None, All, refl, sym, ap, subst, ◌∙◌, arith, ℤ, pos, ◌≤ℤ◌}
-use Rattle.std.specs.Prelude.{◌&&◌, not, nat_le, int_lt, unsigned_abs, fold, max, flat_map, slice_index, slice_index_or}
+use Rattle.std.proofs.Common.{◌≡◌, ℕ, ◌+◌, ◌^◌, ◌<◌, ◌≤◌, ◌%◌, ◌==◌, Bool, true, false, List, [], ◌∷◌, length, map, All, refl, sym, subst, arith, ℤ, pos}
+use Rattle.std.specs.Prelude.{◌&&◌, not, nat_le, unsigned_abs, fold, max, flat_map, slice_index, slice_index_or}
 use Rattle.std.specs.List.{list_any}
 use Rattle.std.proofs.lemmas.Bool.{not-false, eqb-true, leb-true}
 use Rattle.std.proofs.lemmas.List.{length-map}
 use Rattle.std.proofs.lemmas.List.Elements.{All-nil, All-cons, All-head, All-tail, All-append}
 use Rattle.spd_scaled.proofs.CallerLemmas.Ring.{int_lt-false}
-use Rattle.spd_model.specs.declared.tree.Tree.{Tree, Leaf, Named, Branch}
+use Rattle.spd_model.specs.declared.tree.Tree.{Tree, Leaf, Branch}
 use Rattle.spd_model.specs.Lawful.{Fits, FitsTable, FitsReward}
 use Rattle.spd_model.specs.Process.{Process}
 use Rattle.spd_model.specs.States.{sizes}
@@ -14,7 +14,7 @@ use Rattle.spd_model.specs.Trees.{Part, number, choice, missing, parts, nesting,
 use Rattle.spd_model.proofs.CallerLemmas.Trees.{read_tree-Branch}
 use Rattle.spd_reader.specs.declared.purpose.Purpose.{Purpose}
 use Rattle.spd_reader.specs.declared.purpose.Purpose.TheVariants.{Diagram, Table, Reward}
-use Rattle.spd_reader.specs.Trees.{may_prime, primes_wrong, negative_wrong, fine_wrong, is_negative, is_fine}
+use Rattle.spd_reader.specs.Trees.{may_prime, primes_wrong, negative_wrong, fine_wrong}
 use Rattle.spd_reader.proofs.LawfulLists.{none-passes}
 
 -- a part fits what a tree is for

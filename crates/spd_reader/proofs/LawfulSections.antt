@@ -1,5 +1,5 @@
 -- Sections without a fault of their names say what a lawful model has.
-use Rattle.std.proofs.Common.{◌≡◌, ◌≢◌, ℕ, zero, suc, ◌+◌, ◌<◌, ◌≤◌, ◌^◌, Bool, true, false, List, [], ◌∷◌, ◌++◌, length, map, Option, Some, None, All, refl, sym, ap, subst, ◌∙◌, arith, ℤ, pos, ◌≤ℤ◌, append-nil}
+use Rattle.std.proofs.Common.{◌≡◌, ℕ, ◌+◌, ◌<◌, ◌≤◌, ◌^◌, Bool, true, false, List, [], ◌∷◌, ◌++◌, length, All, refl, sym, ap, subst, ◌∙◌, arith, ℤ, pos, ◌≤ℤ◌, append-nil}
 use Rattle.std.specs.Prelude.{IfSome, is_some, unsigned_abs, if◌then◌else◌}
 use Rattle.std.proofs.lemmas.Bool.{cond-false}
 use Rattle.std.proofs.lemmas.List.{map-append}
@@ -10,7 +10,7 @@ use Rattle.spd_model.specs.declared.tree.Tree.{Tree}
 use Rattle.spd_model.specs.declared.process.Action.{Action}
 use Rattle.spd_model.specs.Lawful.{AreDistinct, Fits, IsAction, AreRewards}
 use Rattle.spd_model.specs.Process.{Process}
-use Rattle.spd_model.specs.Trees.{Part, parts, nesting, read_tree, read_diagrams}
+use Rattle.spd_model.specs.Trees.{parts, nesting, read_tree, read_diagrams}
 use Rattle.spd_syntax.specs.declared.file.Word.{Word}
 use Rattle.spd_syntax.specs.declared.file.Counts.{Counts}
 use Rattle.spd_syntax.specs.declared.file.Quantity.{Quantity}
@@ -21,7 +21,7 @@ use Rattle.spd_syntax.specs.declared.refusal.Refusal.TheVariants as refusals
 use Rattle.spd_syntax.specs.Words.{text_of}
 use Rattle.spd_syntax.specs.Grammar.{IsNumber}
 use Rattle.spd_syntax.specs.Positions.{after_setting, one_dd, one_action}
-use Rattle.spd_syntax.specs.Files.{ASection, AreSections, after_section, AName, AreItems}
+use Rattle.spd_syntax.specs.Files.{ASection, AreSections, after_section}
 use Rattle.spd_reader.specs.declared.purpose.Purpose.TheVariants.{Diagram}
 use Rattle.spd_reader.specs.Faults.{when}
 use Rattle.spd_reader.specs.Models.{Said, action_of, action_faults, action_names, with_dd, with_action, with_setting, with_section, section_faults, sections_of, sections_faults}

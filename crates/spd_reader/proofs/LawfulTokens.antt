@@ -1,5 +1,5 @@
 -- How many tokens the parts of a file take: each at least those that it is written in.
-use Rattle.std.proofs.Common.{◌≡◌, ℕ, zero, suc, ◌+◌, ◌-◌, ◌*◌, ◌<◌, ◌≤◌, Bool, true, false, List, [], ◌∷◌, length, Option, Some, None, refl, sym, ap, ◌∙◌, arith}
+use Rattle.std.proofs.Common.{◌≡◌, ℕ, suc, ◌+◌, ◌*◌, ◌≤◌, Bool, true, false, List, [], ◌∷◌, length, Option, Some, None, refl, ap, ◌∙◌, arith}
 use Rattle.std.specs.Prelude.{if◌then◌else◌, ◌==◌, ◌&&◌}
 use Rattle.spd_lex.specs.declared.token.Token.{Token}
 use Rattle.spd_lex.specs.declared.token.Kind.{Kind}
@@ -15,7 +15,7 @@ use Rattle.spd_syntax.specs.declared.file.Section.{Section}
 use Rattle.spd_syntax.specs.declared.file.Section.TheVariants as sections
 use Rattle.spd_syntax.specs.declared.sections.SectionWord.{SectionWord}
 use Rattle.spd_syntax.specs.Grammar.{One, AWord, IsInside, AreBranches, IsTree}
-use Rattle.spd_syntax.specs.Files.{Each, AName, AValue, HasValues, AVariable, AreVariables, after_variable, AreTrees, APart, a_tree, a_sum, AnItem, AreItems, IsBody, ASection}
+use Rattle.spd_syntax.specs.Files.{Each, AValue, AreVariables, after_variable, APart, a_tree, a_sum, AnItem, IsBody, ASection}
 
 -- ---- a file has at most as many tokens as bytes
 
@@ -101,15 +101,9 @@ variables-length file c k (v ∷ vs) a e h =
 
 -- ---- sections
 
-item-length : (file : List ℕ) (item : Item) (a e : List Token) → AnItem file item a e → length e ≤ length a
+pub item-length : (file : List ℕ) (item : Item) (a e : List Token) → AnItem file item a e → length e ≤ length a
 item-length file (items.Table w tree) a e h = omega (arith, word-length w a h.0 h.1.word, tree-length file _ 0 tree h.0 e h.3)
 item-length file (items.Cost w parts) a e h = omega (arith, word-length w a h.0 h.1, part-length file parts h.0 e h.3)
-
-pub cost-length : (file : List ℕ) (w : Word) (parts : List Shape) (a e : List Token) → AnItem file (items.Cost w parts) a e → 2 * length parts ≤ length a
-cost-length file w parts a e h = omega (arith, word-length w a h.0 h.1, part-length file parts h.0 e h.3)
-
-pub item-shorter : (file : List ℕ) (item : Item) (a e : List Token) → AnItem file item a e → length e ≤ length a
-item-shorter = item-length
 
 items-length : (file : List ℕ) (its : List Item) (a e : List Token) → Each (AnItem file) its a e → length e ≤ length a
 items-length file [] a e h = let g : length a ≡ length e = ap length h in omega arith

@@ -1,6 +1,6 @@
 -- A tree without a fault of its names means a good tree.
-use Rattle.std.proofs.Common.{◌≡◌, ℕ, zero, suc, ◌+◌, ◌-◌, ◌*◌, ◌^◌, ◌<◌, ◌≤◌, Bool, true, false, List, [], ◌∷◌, ◌++◌, length, map, get_or, set, Option, Some, None, Result, Ok, Err, All, refl, sym, ap, subst, ◌∙◌, arith, ℤ, pos}
-use Rattle.std.specs.Prelude.{◌&&◌, not, nat_lt, unsigned_abs, replicate, slice_index, slice_index_or, slice_set, unwrap_or, is_none}
+use Rattle.std.proofs.Common.{◌≡◌, ℕ, zero, suc, ◌+◌, ◌-◌, ◌^◌, ◌<◌, ◌≤◌, Bool, List, [], ◌∷◌, length, map, Option, Some, None, Ok, All, refl, sym, ap, subst, ◌∙◌, arith, ℤ, pos}
+use Rattle.std.specs.Prelude.{nat_lt, unsigned_abs, slice_index, slice_index_or, unwrap_or}
 use Rattle.std.specs.List.{list_any}
 use Rattle.std.proofs.lemmas.Bool.{ltb-false}
 use Rattle.std.proofs.lemmas.List.{length-map, length-set, length-replicate}
@@ -11,11 +11,9 @@ use Rattle.spd_model.specs.declared.process.Var.{Var}
 use Rattle.spd_model.specs.Lawful.{Fits}
 use Rattle.spd_model.specs.Process.{Process}
 use Rattle.spd_model.specs.States.{sizes}
-use Rattle.spd_model.specs.Trees.{Part, number, choice, missing, parts, nesting, read_tree}
-use Rattle.spd_syntax.specs.declared.file.Word.{Word}
+use Rattle.spd_model.specs.Trees.{Part, number, choice, missing}
 use Rattle.spd_syntax.specs.declared.file.Quantity.{Quantity}
 use Rattle.spd_syntax.specs.declared.file.Shape.{Shape, Number, Use, Choice', Row_of-Branch, end_of-Branch, more_of-Branch}
-use Rattle.spd_syntax.specs.declared.refusal.Refusal.{Refusal}
 use Rattle.spd_syntax.specs.declared.refusal.Refusal.TheVariants as refusals
 use Rattle.spd_syntax.specs.declared.refusal.What.TheVariants.{Nesting}
 use Rattle.spd_syntax.specs.Words.{text_of}
@@ -23,7 +21,7 @@ use Rattle.spd_syntax.specs.Numbers.{number_of}
 use Rattle.spd_syntax.specs.Grammar.{IsInside, AreBranches, IsSome, IsTree}
 use Rattle.spd_reader.specs.declared.purpose.Purpose.{Purpose}
 use Rattle.spd_reader.specs.Faults.{when}
-use Rattle.spd_reader.specs.Trees.{Scope, number_in, var_names, var_number, values_of, no_trees, put, trees_of, place_faults, meaning, branches_of, may_prime, primes_wrong, negative_wrong, fine_wrong, dd_parts, dd_nesting, use_faults, name_faults, tree_faults, branch_faults}
+use Rattle.spd_reader.specs.Trees.{Scope, number_in, var_names, var_number, values_of, no_trees, put, trees_of, place_faults, meaning, branches_of, primes_wrong, negative_wrong, fine_wrong, dd_parts, dd_nesting, use_faults, name_faults, tree_faults, branch_faults}
 use Rattle.spd_reader.proofs.LawfulLists.{none-append, none-three, none-when, number-below}
 use Rattle.spd_reader.proofs.LawfulParts.{FitsPurpose, Good, GoodTree, none-wrong, zero-good, number-good, choice-serves, choice-good}
 
