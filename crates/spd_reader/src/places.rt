@@ -1,6 +1,6 @@
 //! Trees in their places: one for each value of a variable, or for each variable of an action.
 
-ghost use Rattle.std.specs.Prelude.{◌≡◌, IfOk, slice_index_or, is_some, is_none, None, position};
+ghost use Rattle.std.specs.Prelude.{◌≡◌, ◌<◌, length, IfOk, IfSome, slice_index_or, is_some, is_none, None, position};
 ghost use Rattle.std.specs.List.{list_any};
 ghost use Rattle.spd_reader.specs.Faults.{least};
 ghost use Rattle.spd_reader.specs.Trees.{no_trees, put, trees_of, place_faults};
@@ -61,7 +61,8 @@ pub(crate) fn has_gap(places: &[Option<Tree>]) -> bool
 
 /// The first place that has no tree.
 pub(crate) fn first_gap(places: &[Option<Tree>]) -> Option<usize>
-    ensures { result ≡ position is_none places.now }
+    ensures at { result ≡ position is_none places.now }
+    ensures within { IfSome result (λ at. at < length places.now) }
 {
     places.iter().position(|place| place.is_none())
 }
