@@ -1,6 +1,7 @@
 //! The reader of model files: bytes in, a model or the first fault out.
 #![tactic(auto)]
 
+mod actions;
 mod dd;
 mod facts;
 mod faults;
@@ -10,7 +11,11 @@ mod names;
 mod places;
 mod purpose;
 mod reader;
+mod said;
+mod sections;
+mod tables;
 mod trees;
+mod variables;
 
 pub use purpose::Purpose;
 pub use reader::read_model;
