@@ -14,3 +14,4 @@ pub mod LawfulVariables
 pub mod LawfulSections
 pub mod Lawful
 pub mod VariableLaws
+pub mod CallerLemmas
