@@ -6,6 +6,7 @@ mod dd;
 mod facts;
 mod faults;
 mod index;
+mod laws;
 mod lookups;
 mod names;
 mod places;
@@ -17,5 +18,6 @@ mod tables;
 mod trees;
 mod variables;
 
+pub use laws::{law_decided, law_lawful};
 pub use purpose::Purpose;
 pub use reader::read_model;
