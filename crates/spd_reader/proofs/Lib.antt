@@ -14,4 +14,5 @@ pub mod LawfulVariables
 pub mod LawfulSections
 pub mod Lawful
 pub mod VariableLaws
+pub mod ActionLaws
 pub mod CallerLemmas
