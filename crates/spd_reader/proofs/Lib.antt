@@ -1,3 +1,4 @@
+mod Rows
 pub mod IndexViews
 pub mod LeastLaws
 pub mod FactLaws
