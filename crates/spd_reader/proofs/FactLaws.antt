@@ -1,5 +1,5 @@
 -- What a use of a decision diagram asks, by what is written in it and how deep it nests.
-use Rattle.std.proofs.Common.{◌≡◌, ℕ, zero, suc, ◌+◌, ◌<◌, ◌≤◌, Bool, true, false, cond, List, [], ◌∷◌, ◌++◌, length, flat_map, fold, get_or, take, Option, Some, None, refl, sym, ap, ◌∙◌, subst, arith, append-nil, min, max, pos, length-append}
+use Rattle.std.proofs.Common.{◌≡◌, ℕ, zero, suc, ◌+◌, ◌<◌, ◌≤◌, Bool, true, false, List, [], ◌∷◌, ◌++◌, length, flat_map, fold, get_or, take, Option, Some, None, refl, sym, ap, ◌∙◌, subst, arith, append-nil, min, max, pos, length-append}
 use Rattle.std.specs.Prelude.{◌||◌, not, nat_le, nat_lt, ◌==◌, ◌%◌, int_lt, unsigned_abs, if◌then◌else◌, ℤ, map}
 use Rattle.std.specs.List.{list_any}
 use Rattle.std.proofs.lemmas.List.{append_assoc, get_or-map, get_or_past, length-map, map_push, take_all}

@@ -1,7 +1,7 @@
 -- The least of several lists of faults, one after the other.
 use Rattle.std.proofs.Common.{◌≡◌, Bool, true, false, List, [], ◌∷◌, ◌++◌, Option, Some, None, refl, sym, ap, ◌∙◌}
 use Rattle.spd_syntax.specs.declared.refusal.Refusal.{Refusal}
-use Rattle.spd_reader.specs.Faults.{least, lesser, when, is_before, rank}
+use Rattle.spd_reader.specs.Faults.{least, lesser, is_before, rank}
 use Rattle.std.specs.Prelude.{if◌then◌else◌}
 
 pub least_append : (found : Option Refusal) (rs qs : List Refusal) → least found (rs ++ qs) ≡ least (least found rs) qs

@@ -1,10 +1,10 @@
 -- What small files mean, and their faults. Each file is given by its bytes and by what is written in them.
-use Rattle.std.proofs.Common.{◌≡◌, ℕ, zero, suc, Bool, true, false, List, [], ◌∷◌, Option, Some, None, ℤ, pos, negsuc, codes, refl}
+use Rattle.std.proofs.Common.{◌≡◌, ℕ, zero, suc, true, false, List, [], ◌∷◌, Option, Some, None, pos, negsuc, codes, refl}
 use Rattle.spd_model.specs.declared.tree.Tree.{Leaf, Named, Branch as Fork}
 use Rattle.spd_model.specs.declared.tree.Tree.TheBlock.{shape-the_row-Tree-0, hidden-the_row-Tree-0}
 use denote.Hole.Carrier
 use Rattle.spd_syntax.specs.declared.file.Word.{Word}
-use Rattle.spd_syntax.specs.declared.file.Quantity.TheVariants.{Discount, Tolerance, Horizon}
+use Rattle.spd_syntax.specs.declared.file.Quantity.TheVariants.{Discount, Horizon}
 use Rattle.spd_syntax.specs.declared.file.Shape.{Shape, Number, Use, Choice}
 use Rattle.spd_syntax.specs.declared.file.Shape.TheBlock.{shape-the_row-Branch-0, hidden-the_row-Branch-0}
 use Rattle.spd_syntax.specs.declared.file.Branch.{Branch}

@@ -1,5 +1,5 @@
 -- What sections say and the faults of their names, section by section.
-use Rattle.std.proofs.Common.{◌≡◌, ℕ, ◌+◌, ◌<◌, ◌≤◌, List, [], ◌∷◌, ◌++◌, length, get_or, drop, Option, None, sym, ap, ◌∙◌, arith}
+use Rattle.std.proofs.Common.{◌≡◌, ℕ, ◌+◌, ◌<◌, ◌≤◌, List, [], ◌∷◌, length, get_or, drop, Option, None, sym, ap, ◌∙◌, arith}
 use Rattle.std.proofs.lemmas.List.{at_drop_more, nil_from_length, length-drop}
 use Rattle.spd_syntax.specs.declared.file.Section.{Section}
 use Rattle.spd_syntax.specs.declared.refusal.Refusal.{Refusal}

@@ -1,5 +1,5 @@
 -- What a use of a decision diagram asks, read from its tree.
-use Rattle.std.specs.Prelude.{ℕ, ◌+◌, ◌%◌, ◌==◌, min, max, ◌||◌, not, if◌then◌else◌, Bool, true, false, List, [], ◌∷◌, fold, Option, Some, None, ℤ, pos, int_lt, unsigned_abs}
+use Rattle.std.specs.Prelude.{ℕ, ◌+◌, ◌%◌, ◌==◌, min, max, ◌||◌, not, if◌then◌else◌, Bool, false, List, [], ◌∷◌, fold, Option, Some, None, ℤ, pos, int_lt, unsigned_abs}
 use Rattle.std.specs.List.{list_any}
 use Rattle.spd_model.specs.Trees.{Reading, Part, number, choice, missing}
 use Rattle.spd_reader.specs.declared.facts.Facts.{Facts}

@@ -1,5 +1,5 @@
 -- The model that a file means, and all faults of its names.
-use Rattle.std.specs.Prelude.{ℕ, Bool, true, false, if◌then◌else◌, List, [], ◌∷◌, ◌++◌, length, map, flat_map, Option, Some, None, is_some, is_none, unwrap_or, position, ℤ, pos, unsigned_abs}
+use Rattle.std.specs.Prelude.{ℕ, if◌then◌else◌, List, [], ◌∷◌, ◌++◌, length, map, flat_map, Option, Some, None, is_some, is_none, unwrap_or, position, ℤ, pos, unsigned_abs}
 use Rattle.std.specs.Option.{option_map}
 use Rattle.spd_model.specs.declared.tree.Tree.{Tree}
 use Rattle.spd_model.specs.declared.process.Var.{Var}

@@ -1,4 +1,4 @@
-use Rattle.std.proofs.Common.{◌≡◌, ◌∙◌, ap, [], None}
+use Rattle.std.proofs.Common.{◌∙◌, ap, [], None}
 use Rattle.spd_reader.specs.Faults.{least}
 use Rattle.spd_reader.specs.Models.{variables_of, variables_faults, sections_faults, nothing_said}
 use Rattle.spd_reader.specs.Scopes.{scope_of}

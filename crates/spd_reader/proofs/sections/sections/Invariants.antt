@@ -1,8 +1,7 @@
 use Rattle.std.proofs.Common.{◌≡◌, drop}
 use Rattle.spd_reader.specs.Faults.{least}
 use Rattle.spd_reader.specs.Models.{sections_of, sections_faults, action_names}
-use Rattle.spd_reader.specs.Scopes.{scope_of}
-use Rattle.spd_reader.specs.Saying.{said_by, before_sections}
+use Rattle.spd_reader.specs.Saying.{said_by}
 use Rattle.spd_reader.proofs.sections.sections.Given as goal
 
 abbrev pub invariant-loop-section : goal.invariant-loop-section

@@ -1,4 +1,4 @@
-use Rattle.std.proofs.Common.{◌≡◌, ◌∙◌, ap, refl, get_or, arith}
+use Rattle.std.proofs.Common.{◌∙◌, ap, refl, get_or, arith}
 use Rattle.spd_syntax.specs.declared.file.Word.{Word}
 use Rattle.spd_syntax.specs.declared.refusal.Refusal.TheVariants.{Twice}
 use Rattle.spd_reader.specs.Faults.{least, when}

@@ -1,11 +1,11 @@
-use Rattle.std.proofs.Common.{◌≡◌, ◌∙◌, ap, sym, arith, true, false, ◌++◌, ◌∷◌, [], map, List}
+use Rattle.std.proofs.Common.{◌≡◌, ◌∙◌, ap, sym, arith, ◌++◌, ◌∷◌, [], map}
 use Rattle.std.proofs.lemmas.List.{map_push}
 use Rattle.spd_model.specs.declared.process.Var.{Var}
 use Rattle.spd_syntax.specs.declared.refusal.Refusal.TheVariants.{Twice}
 use Rattle.spd_syntax.specs.Words.{text_of}
 use Rattle.spd_reader.specs.Faults.{least, when}
-use Rattle.spd_reader.specs.Trees.{is_among, with_name, var_names}
-use Rattle.spd_reader.specs.Models.{var_of, with_variable}
+use Rattle.spd_reader.specs.Trees.{is_among, var_names}
+use Rattle.spd_reader.specs.Models.{with_variable}
 use Rattle.spd_reader.proofs.VariableLaws.{variable_means, variable_notes, variables_noted, variable_again, variable_new, names_new}
 use Rattle.spd_reader.proofs.variables.variables.Goals as goal
 use Rattle.spd_reader.proofs.variables.variables.Goals.{then-not-twice+in_ok-declare+in_ok-push+in_ok-push-2, else-not-twice}

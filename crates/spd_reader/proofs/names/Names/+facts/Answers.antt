@@ -1,6 +1,5 @@
-use Rattle.std.proofs.Common.{◌∙◌, ap, sym, map, arith}
+use Rattle.std.proofs.Common.{◌∙◌, map}
 use Rattle.spd_reader.specs.declared.dd.Dd.{Dd}
-use Rattle.spd_reader.specs.Facts.{deeper}
 use Rattle.spd_reader.proofs.FactLaws.{branch_facts}
 use Rattle.spd_reader.proofs.names.Names.+facts.Goals as goal
 

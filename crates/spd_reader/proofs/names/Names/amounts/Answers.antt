@@ -1,6 +1,6 @@
 use Rattle.std.proofs.Common.{arith}
 use Rattle.spd_reader.specs.Scopes.{scope_of}
-use Rattle.spd_reader.proofs.ActionLaws.{amount_means, amount_notes, amounts_meant, amounts_noted}
+use Rattle.spd_reader.proofs.ActionLaws.{amount_means, amount_notes, amounts_noted}
 use Rattle.spd_reader.proofs.names.Names.amounts.Goals as goal
 
 pub loop-shape-preserved : goal.loop-shape-preserved

@@ -1,5 +1,4 @@
-use Rattle.std.proofs.Common.{◌∙◌, ap, arith}
-use Rattle.spd_reader.specs.declared.dd.Dd.{Dd}
+use Rattle.std.proofs.Common.{◌∙◌, arith}
 use Rattle.spd_reader.proofs.FactLaws.{facts_there, facts_past}
 use Rattle.spd_reader.proofs.names.Names.facts_of.Goals as goal
 

@@ -1,5 +1,5 @@
 use Rattle.std.proofs.Common.{◌∙◌, ◌≡◌, ap, length, arith}
-use Rattle.spd_reader.specs.Models.{Filled, with_item}
+use Rattle.spd_reader.specs.Models.{Filled}
 use Rattle.spd_reader.specs.Scopes.{scope_of, filled_of}
 use Rattle.spd_reader.proofs.ActionLaws.{item_means, item_notes, items_noted, length-with_item}
 use Rattle.spd_reader.proofs.names.Names.items.Goals as goal

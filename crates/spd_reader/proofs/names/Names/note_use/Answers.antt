@@ -1,5 +1,5 @@
-use Rattle.std.proofs.Common.{◌≡◌, ◌<◌, ◌∙◌, ap, sym, length, []}
-use Rattle.std.specs.Prelude.{nat_lt, min}
+use Rattle.std.proofs.Common.{◌∙◌, ap, sym}
+use Rattle.std.specs.Prelude.{nat_lt}
 use Rattle.std.specs.List.{list_any}
 use Rattle.spd_syntax.specs.declared.refusal.Refusal.TheVariants.{Unknown, Primed, Negative, TooFine, TooMany}
 use Rattle.spd_syntax.specs.declared.refusal.What.TheVariants.{Nesting}
