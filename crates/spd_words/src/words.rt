@@ -1,6 +1,6 @@
 //! Reading the words of a command.
 
-ghost use Rattle.std.specs.Prelude.{◌≡◌, ◌≤◌, ℕ, Ok, Err, IfOk, IfErr, length};
+ghost use Rattle.std.specs.Prelude.{◌≡◌, ◌<◌, ◌≤◌, ℕ, Ok, Err, IfOk, IfErr, length};
 ghost use Rattle.spd_words.specs.Commands.{IsCommand, IsUsage, IsFault, IsWithinLimits, pairs_of, size_of, command_from};
 ghost use Rattle.spd_words.specs.declared.command.Command.{Command as CommandValue};
 ghost use Rattle.spd_words.specs.Inner.Judging.{Reads};
@@ -49,7 +49,7 @@ fn command_from(words: &[Word], verb: Verb, said: &Said) -> Command
     let options = said.given.options();
     match verb {
         Verb::Solve => Command::Solve { file, options },
-        Verb::Ask => Command::Ask { file, pairs: pairs_of(operands.get(1..).unwrap_or(&[])), options },
+        Verb::Ask => Command::Ask { file, pairs: pairs_of(&operands[1.min(operands.len())..]), options },
         Verb::Check => Command::Check { file, cert: second, options },
         Verb::Plain => Command::Plain { file, options },
         Verb::Gen => Command::Gen { n: size_of(words, operands) },
@@ -63,6 +63,7 @@ fn command_from(words: &[Word], verb: Verb, said: &Said) -> Command
 
 /// What the words behind the command say, or the first word that can't stand.
 fn said_by(words: &[Word], verb: Verb) -> Result<Said, WordsFault>
+    requires { 0 < length words.now }
     ensures { Reads words.now verb result }
 {
     let mut said = Said::nothing();
@@ -88,7 +89,10 @@ pub fn read_words(words: &[Word]) -> Result<Command, WordsFault>
 
     ensures limits { IfOk result IsWithinLimits }
 {
-    let Some(verb) = verb_named(text_at(words, 0)) else {
+    let [first, ..] = words else {
+        return Err(WordsFault::Usage { word: 0 });
+    };
+    let Some(verb) = verb_named(first.as_slice()) else {
         return Err(WordsFault::Usage { word: 0 });
     };
     let said = said_by(words, verb)?;
