@@ -2,7 +2,7 @@
 use Rattle.std.proofs.Common.{◌≡◌, ◌≤◌, ◌<◌, ◌+◌, ◌∙◌, ℕ, true, false, List, [], ◌∷◌, ◌++◌, length, drop, get_or, Option, Some, None, Result, Ok, Err, refl, sym, ap, subst, add-one, drop-cons, arith}
 use Rattle.std.proofs.lemmas.Option.{unwrap_or-slice_get}
 use Rattle.std.proofs.Math.Seq.{drop-length}
-use Rattle.std.specs.Prelude.{IsErrAnd, codes, bytes_eq}
+use Rattle.std.specs.Prelude.{IsErrAnd, IfErr, codes, bytes_eq}
 use Rattle.spd_words.specs.declared.verb.Verb.{Verb}
 use Rattle.spd_words.specs.declared.verb.Key.{Key}
 use Rattle.spd_words.specs.declared.said.Said.{Said}
@@ -183,3 +183,7 @@ pub end_goes : (words : List (List ℕ)) (verb : Verb) (expects : Expects) (at :
 end_goes words verb expects at said is whole =
     judged-end words verb expects at said is
     ∙ judged-next words verb (last_piece expects (length words)) [] said said (rw (whole) (ap (λ (s : Said). let r : Result Said ℕ = Ok s in r) (with_piece-last expects (length words) said)))
+
+pub err_exit : {X : Type 0} (P : WordsFault → Type 0) (r : Result X WordsFault) (u : WordsFault) → IsErrAnd r (λ (x : WordsFault). x ≡ u) → P u → IfErr r P
+err_exit P (Ok x) u is h = tt
+err_exit P (Err x) u is h = subst P (sym is) h

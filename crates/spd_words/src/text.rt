@@ -34,8 +34,8 @@ pub(crate) fn halves(word: &[u8]) -> Option<(&[u8], &[u8])>
     }
 }
 
-/// The word of this number.
-pub(crate) fn text_at(words: &[Word], at: usize) -> &[u8]
+/// The word of this number, or no bytes where there is none.
+pub fn text_at(words: &[Word], at: usize) -> &[u8]
     ensures { result.now ≡ text_at words.now at }
 {
     match words.get(at) {
