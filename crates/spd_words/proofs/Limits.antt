@@ -1,14 +1,13 @@
 -- The values of options and sizes lie within their limits.
-use Rattle.std.proofs.Common.{◌≡◌, ◌≤◌, ◌+◌, ◌*◌, ◌%◌, ◌/◌, ◌^◌, ℕ, zero, suc, Bool, true, false, cond, ◌&&◌, List, [], ◌∷◌, Option, Some, None, Result, Ok, Err, ℤ, pos, negsuc, refl, sym, ap, subst, arith, lit≤}
+use Rattle.std.proofs.Common.{◌≡◌, ◌≤◌, ◌+◌, ◌*◌, ◌%◌, ◌/◌, ◌^◌, ℕ, zero, suc, Bool, true, false, cond, ◌&&◌, List, [], ◌∷◌, Option, Some, None, Result, Ok, Err, ℤ, pos, negsuc, refl, arith, lit≤}
 use Rattle.std.proofs.lemmas.Bool.Decides.{nat_tests}
 use Rattle.std.proofs.lemmas.Int.{ints}
-use Rattle.std.specs.Prelude.{◌≤ℤ◌, nat_le, ◌==◌, IfSome, IfOk, unwrap_or, neg_ℤ}
+use Rattle.std.specs.Prelude.{◌≤ℤ◌, nat_le, ◌==◌, IfSome, IfOk, unwrap_or}
 use Rattle.std.specs.Str.Parse.{digits_value}
 use Rattle.spd_scaled.specs.declared.decimal.Decimal.{Decimal}
 use Rattle.spd_scaled.specs.declared.decimal.Scale.{Scale}
 use Rattle.spd_scaled.specs.declared.decimal.Scale.TheVariants.{TooFine, TooLarge}
-use Rattle.spd_scaled.specs.Decimal.{with_sign}
-use Rattle.spd_scaled.specs.DecimalReading.{limited, divided_by, units_from, signed_step, scaled_of, decimal_of}
+use Rattle.spd_scaled.specs.DecimalReading.{limited, units_from, signed_step, scaled_of, decimal_of}
 use Rattle.spd_model.specs.Options.{AreOptions}
 use Rattle.spd_words.specs.declared.given.Given.{Given}
 use Rattle.spd_words.specs.declared.verb.Key.{Key}
@@ -117,8 +116,15 @@ options_within given h =
     let span = or_default IsSpan given.span (pos 0) h.span (pos-span 0 (lit≤ tt)) in
     let memo = or_default (Between 1 8388608) given.memo 65536 h.memo (lit≤ tt, lit≤ tt) in
     record {
-      least_workers = workers.0; most_workers = workers.1; least_nodes = nodes.0; most_nodes = nodes.1; most_turns = turns.1;
-      least_span = span.0; most_span = span.1; least_memo = memo.0; most_memo = memo.1;
+      least_workers = workers.0;
+      most_workers = workers.1;
+      least_nodes = nodes.0;
+      most_nodes = nodes.1;
+      most_turns = turns.1;
+      least_span = span.0;
+      most_span = span.1;
+      least_memo = memo.0;
+      most_memo = memo.1;
     }
 
 pub sweeps_within : (given : Given) → AreWithin given → Between 1 1000 (sweeps_of given)

@@ -1,9 +1,8 @@
 -- The number of a ring's variables that a command says is from 2 to 63; and the commands' numbers lie within their limits.
-use Rattle.std.proofs.Common.{◌≡◌, ◌∙◌, ◌≤◌, ◌<◌, ◌+◌, ℕ, zero, suc, Bool, true, false, ◌⊎◌, inl, inr, List, [], ◌∷◌, ◌++◌, length, drop, Option, Some, None, refl, sym, ap, subst, append_assoc, arith}
+use Rattle.std.proofs.Common.{◌≡◌, ◌∙◌, ◌+◌, ℕ, true, false, ◌⊎◌, inl, inr, List, [], ◌∷◌, ◌++◌, length, Option, Some, None, refl, sym, ap, subst, append_assoc, arith}
 use Rattle.std.proofs.lemmas.List.{append-nil}
 use Rattle.std.proofs.lemmas.Bool.Decides.{nat_tests}
 use Rattle.std.specs.Prelude.{IsTrue, is_some, unwrap_or, slice_index, ◌==◌, IfSome}
-use Rattle.spd_model.specs.Options.{AreOptions}
 use Rattle.spd_words.specs.declared.verb.Verb.{Verb}
 use Rattle.spd_words.specs.declared.verb.Verb.TheVariants.{Solve, Ask, Check, Plain, Gen, Ring, Upgrade, Horizon, Evaluate, Bounded}
 use Rattle.spd_words.specs.declared.command.Command.{Command}
@@ -12,10 +11,10 @@ use Rattle.spd_words.specs.declared.expects.Expects.TheVariants.{Anything, Value
 use Rattle.spd_words.specs.Verbs.{role_of, one_size}
 use Rattle.spd_words.specs.Values.{number_in}
 use Rattle.spd_words.specs.Pieces.{Piece, operand, option, value, no_value, end, word_pieces, behind_word, pieces_from, pieces_of}
-use Rattle.spd_words.specs.Standing.{text_at, operands_in, given_in, stands, are_all, fits, AllStand}
+use Rattle.spd_words.specs.Standing.{text_at, operands_in, stands, are_all, fits, AllStand}
 use Rattle.spd_words.specs.Commands.{size_of, meaning, IsCommand, IsWithinLimits}
 use Rattle.spd_words.proofs.CallerLemmas.Grammar.{operands_in-append}
-use Rattle.spd_words.proofs.Limits.{Between, number_between, AreWithin, given_within, options_within, sweeps_within, most_of}
+use Rattle.spd_words.proofs.Limits.{Between, number_between, given_within, options_within, sweeps_within, most_of}
 
 -- ---- no operand is missing
 

@@ -1,5 +1,5 @@
 -- The grammar of the command's words: which command they are, or the first word that can't stand.
-use Rattle.std.specs.Prelude.{ℕ, ◌≡◌, ◌≤◌, ◌⊎◌, List, [], ◌∷◌, drop, slice_index, Option, Some, None, unwrap_or, IfSome}
+use Rattle.std.specs.Prelude.{ℕ, ◌≡◌, ◌≤◌, ◌⊎◌, List, [], ◌∷◌, drop, slice_index, Some, None, unwrap_or, IfSome}
 use Rattle.spd_words.specs.declared.verb.Verb.{Verb}
 use Rattle.spd_words.specs.declared.verb.Verb.TheVariants as verbs
 use Rattle.spd_words.specs.declared.given.Given.{Given}

@@ -60,15 +60,46 @@ fn command_from(words: &[Word], verb: Verb, said: &Said) -> Command
     let options = said.given.options();
     match verb {
         Verb::Solve => Command::Solve { file, options },
-        Verb::Ask => Command::Ask { file, pairs: pairs_behind(operands), options },
-        Verb::Check => Command::Check { file, cert: second, options },
+        Verb::Ask => Command::Ask {
+            file,
+            pairs: pairs_behind(operands),
+            options,
+        },
+        Verb::Check => Command::Check {
+            file,
+            cert: second,
+            options,
+        },
         Verb::Plain => Command::Plain { file, options },
-        Verb::Gen => Command::Gen { n: size_of(words, operands) },
-        Verb::Ring => Command::Ring { n: size_of(words, operands), options },
-        Verb::Upgrade => Command::Upgrade { file, cert: second, options },
-        Verb::Horizon => Command::Horizon { file, steps: said.given.steps, options },
-        Verb::Evaluate => Command::Evaluate { file, cert: second, rounds: said.given.rounds, sweeps: said.given.sweeps(), options },
-        Verb::Bounded => Command::Bounded { file, upper: second, options },
+        Verb::Gen => Command::Gen {
+            n: size_of(words, operands),
+        },
+        Verb::Ring => Command::Ring {
+            n: size_of(words, operands),
+            options,
+        },
+        Verb::Upgrade => Command::Upgrade {
+            file,
+            cert: second,
+            options,
+        },
+        Verb::Horizon => Command::Horizon {
+            file,
+            steps: said.given.steps,
+            options,
+        },
+        Verb::Evaluate => Command::Evaluate {
+            file,
+            cert: second,
+            rounds: said.given.rounds,
+            sweeps: said.given.sweeps(),
+            options,
+        },
+        Verb::Bounded => Command::Bounded {
+            file,
+            upper: second,
+            options,
+        },
     }
 }
 
@@ -124,5 +155,4 @@ pub fn law_one_answer()
     ensures one_command { (words : List (List ℕ)) (a b : CommandValue) → IsCommand words a → IsCommand words b → a ≡ b }
     ensures one_usage { (words : List (List ℕ)) (v w : ℕ) → IsUsage words v → IsUsage words w → v ≡ w }
     ensures not_both { (words : List (List ℕ)) (command : CommandValue) (word : ℕ) → IsCommand words command → IsUsage words word → ⊥ }
-{
-}
+{}

@@ -1,5 +1,5 @@
 -- Words are one command, or one fault, and not both.
-use Rattle.std.proofs.Common.{◌≡◌, ◌∙◌, ℕ, Bool, true, false, ◌⊎◌, inl, inr, ◌≤◌, ◌<◌, length, get_or, drop, arith, List, [], ◌∷◌, ◌++◌, Option, Some, None, Result, Ok, Err, refl, sym, ap, subst, append_assoc}
+use Rattle.std.proofs.Common.{◌≡◌, ◌∙◌, ℕ, Bool, true, false, ◌⊎◌, inl, inr, ◌≤◌, length, get_or, drop, arith, List, [], ◌∷◌, ◌++◌, Option, Some, None, Result, Ok, Err, refl, sym, ap, subst, append_assoc}
 use Rattle.std.proofs.lemmas.List.{append-nil}
 use Rattle.std.specs.Prelude.{IsTrue, MatchBool, IfOk, IfErr}
 use Rattle.spd_words.specs.declared.verb.Verb.{Verb}
@@ -126,9 +126,12 @@ pub command_is : (words : List (List ℕ)) (first : List ℕ) (verb : Verb) (sai
     → IsCommand words command
 command_is [] first verb said command some is named told same = absurd (omega arith)
 command_is (word ∷ behind) first verb said command some is named told same =
-    let words = word ∷ behind in
-    (verb, ap verb_named (sym is) ∙ named, all_stand words verb [] (pieces_of behind) said told,
-    same ∙ ap (λ (s : Said). command_from words verb s.operands s.given) (said_then words verb [] (pieces_of behind) said told))
+    let words = word ∷ behind in (
+      verb,
+      ap verb_named (sym is) ∙ named,
+      all_stand words verb [] (pieces_of behind) said told,
+      same ∙ ap (λ (s : Said). command_from words verb s.operands s.given) (said_then words verb [] (pieces_of behind) said told),
+    )
 
 pub fault_is : (words : List (List ℕ)) (first : List ℕ) (verb : Verb) (u : WordsFault)
     → 1 ≤ length words → first ≡ get_or words 0 first → verb_named first ≡ Some verb
@@ -163,7 +166,7 @@ not_both [] command word x y = x
 not_both (first ∷ behind) command word x (inl y) = cc (x.1, y.0)
 not_both (first ∷ behind) command word x (inr y) =
     let all : AllStand (first ∷ behind) y.0 [] (pieces_of behind) =
-        subst (λ (v : Verb). AllStand (first ∷ behind) v [] (pieces_of behind)) (same_verb first x.0 y.0 x.1 y.1) x.2 in
+    subst (λ (v : Verb). AllStand (first ∷ behind) v [] (pieces_of behind)) (same_verb first x.0 y.0 x.1 y.1) x.2 in
     stand_or_fault (first ∷ behind) y.0 [] (pieces_of behind) word all y.2
 
 match_both : {P Q : Type 0} (v w n : ℕ) (b : Bool) → MatchBool b P (v ≡ n) → MatchBool b Q (w ≡ n) → (P → Q → v ≡ w) → v ≡ w
@@ -176,7 +179,6 @@ one_fault words verb before [] v w a b = absurd a
 one_fault words verb before (p ∷ ps) v w a b =
     match_both v w (place_of p) (stands words verb before p) a b (one_fault words verb (before ++ p ∷ []) ps v w)
 
-
 pub one_usage : (words : List (List ℕ)) (v w : ℕ) → IsUsage words v → IsUsage words w → v ≡ w
 one_usage [] v w x y = x ∙ sym y
 one_usage (first ∷ behind) v w (inl x) (inl y) = x.1 ∙ sym y.1
@@ -184,7 +186,7 @@ one_usage (first ∷ behind) v w (inl x) (inr y) = cc (x.0, y.1)
 one_usage (first ∷ behind) v w (inr x) (inl y) = cc (x.1, y.0)
 one_usage (first ∷ behind) v w (inr x) (inr y) =
     let fault : FirstFault (first ∷ behind) y.0 [] (pieces_of behind) v =
-        subst (λ (u : Verb). FirstFault (first ∷ behind) u [] (pieces_of behind) v) (same_verb first x.0 y.0 x.1 y.1) x.2 in
+    subst (λ (u : Verb). FirstFault (first ∷ behind) u [] (pieces_of behind) v) (same_verb first x.0 y.0 x.1 y.1) x.2 in
     one_fault (first ∷ behind) y.0 [] (pieces_of behind) v w fault y.2
 
 judged_some : (words : List (List ℕ)) (verb : Verb) (behind : List (List ℕ)) (first : List ℕ) → words ≡ first ∷ behind → verb_named first ≡ Some verb

@@ -1,5 +1,5 @@
 -- Pieces judged one after another: what they say so far, or the first that can't stand.
-use Rattle.std.specs.Prelude.{ℕ, ◌≡◌, Option, Some, if◌then◌else◌, List, [], ◌∷◌, ◌++◌, Result, Ok, Err, drop}
+use Rattle.std.specs.Prelude.{ℕ, ◌≡◌, Some, if◌then◌else◌, List, [], ◌∷◌, ◌++◌, Result, Ok, Err, drop}
 use Rattle.spd_words.specs.declared.verb.Verb.{Verb}
 use Rattle.spd_words.specs.declared.said.Said.{Said}
 use Rattle.spd_words.specs.declared.fault.WordsFault.{WordsFault}

@@ -1,4 +1,4 @@
-use Rattle.std.proofs.Common.{◌≡◌, ◌≤◌, ◌∙◌, ◌-◌, ◌+◌, ℕ, List, Some, Option, length, take, drop, ap, sym, arith, length-drop, take_all, refl}
+use Rattle.std.proofs.Common.{◌≡◌, ◌∙◌, ◌-◌, ◌+◌, ℕ, List, Some, Option, length, take, drop, ap, sym, arith, length-drop, take_all}
 use Rattle.spd_words.specs.Pieces.{halves_at}
 use Rattle.spd_words.proofs.text.halves.Goals as goal
 

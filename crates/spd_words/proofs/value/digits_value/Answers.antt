@@ -1,4 +1,4 @@
-use Rattle.std.proofs.Common.{◌≡◌, ◌+◌, ◌-◌, ◌*◌, ◌<◌, ◌^◌, ◌∙◌, get_or, drop, sym, arith}
+use Rattle.std.proofs.Common.{◌∙◌, arith}
 use Rattle.std.proofs.lemmas.Str.Parse.{digit_at}
 use Rattle.spd_words.proofs.Digits.{digits_value_after-step, pow-step, pow-nine}
 use Rattle.spd_words.proofs.value.digits_value.Goals as goal

@@ -1,6 +1,5 @@
-use Rattle.std.proofs.Common.{◌≡◌, ◌∙◌, ap, sym}
+use Rattle.std.proofs.Common.{◌∙◌, ap, sym}
 use Rattle.spd_words.specs.Verbs.{verb_named}
-use Rattle.spd_words.specs.Commands.{IsFault}
 use Rattle.spd_words.proofs.Judged.{err_exit}
 use Rattle.spd_words.proofs.CallerLemmas.Grammar.{command_is, fault_is}
 use Rattle.spd_words.proofs.words.command_of.Goals as goal

@@ -1,10 +1,5 @@
-use Rattle.std.proofs.Common.{◌≡◌, ◌∙◌, ◌≤◌, ℕ, length, sym, ap, subst, arith, Err}
-use Rattle.std.proofs.lemmas.Result.{err_from_is_err_and}
-use Rattle.spd_words.specs.declared.fault.WordsFault.{WordsFault}
-use Rattle.spd_words.specs.declared.fault.WordsFault.TheVariants.{Usage}
-use Rattle.spd_words.specs.Inner.Judging.{judged, nothing_said}
-use Rattle.spd_words.specs.Pieces.{pieces_of}
-use Rattle.spd_words.proofs.Judged.{reads_exit, word_goes, word_stops, end_stops, end_goes}
+use Rattle.std.proofs.Common.{◌≡◌, ◌∙◌, length, sym, arith}
+use Rattle.spd_words.proofs.Judged.{reads_exit, word_goes, word_stops, end_stops}
 use Rattle.spd_words.proofs.words.said_by.Goals as goal
 
 pub returns-in_err-expects : goal.returns-in_err-expects

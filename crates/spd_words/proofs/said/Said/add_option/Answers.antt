@@ -1,8 +1,5 @@
-use Rattle.std.proofs.Common.{◌≡◌, ◌∙◌, ℕ, Option, ap, sym, Some, None, []}
-use Rattle.spd_words.specs.declared.verb.Key.{Key}
-use Rattle.spd_words.specs.declared.expects.Expects.{Expects}
-use Rattle.spd_words.specs.Pieces.{halves, option_pieces, behind_option, behind_name}
-use Rattle.spd_words.specs.Inner.Judging.{judged}
+use Rattle.std.proofs.Common.{◌∙◌, ap, sym, []}
+use Rattle.spd_words.specs.Pieces.{behind_option, behind_name}
 use Rattle.spd_words.proofs.Judged.{judges_exit, alone_stops, alone_goes, joined_stops, value_stops, value_goes}
 use Rattle.spd_words.proofs.said.Said.add_option.Goals as goal
 
