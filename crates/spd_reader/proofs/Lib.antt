@@ -1,3 +1,7 @@
+pub mod IndexViews
+pub mod LeastLaws
+pub mod FactLaws
+pub mod TreeLaws
 pub mod LawfulLists
 pub mod LawfulTokens
 pub mod LawfulNames
