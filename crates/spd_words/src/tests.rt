@@ -134,8 +134,14 @@ fn words_are_read(rt: HostRuntime) -> Result<(), Fail> {
             ("ring 2 --workers=2", "ring 2, 2 262144 10000 0 65536"),
             ("upgrade m c", "upgrade 1 2, 1 262144 10000 0 65536"),
             ("horizon m", "horizon 1 None, 1 262144 10000 0 65536"),
-            ("horizon m --steps 1000", "horizon 1 Some(1000), 1 262144 10000 0 65536"),
-            ("evaluate m c", "evaluate 1 2 None 10, 1 262144 10000 0 65536"),
+            (
+                "horizon m --steps 1000",
+                "horizon 1 Some(1000), 1 262144 10000 0 65536",
+            ),
+            (
+                "evaluate m c",
+                "evaluate 1 2 None 10, 1 262144 10000 0 65536",
+            ),
             (
                 "evaluate m c --rounds=0 --sweeps 1000",
                 "evaluate 1 2 Some(0) 1000, 1 262144 10000 0 65536",
