@@ -13,3 +13,5 @@ pub mod LawfulActions
 pub mod LawfulVariables
 pub mod LawfulSections
 pub mod Lawful
+pub mod VariableLaws
+pub mod CallerLemmas
