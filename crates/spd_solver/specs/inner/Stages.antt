@@ -16,23 +16,15 @@ use Rattle.spd_frozen.specs.Fits.{FitsModel}
 use Rattle.spd_frozen.specs.Told.{told}
 use Rattle.spd_solver.specs.declared.solving.Solution.{Solution}
 use Rattle.spd_model.specs.declared.options.Options.{Options}
-use Rattle.spd_solver.specs.declared.command.Command.{Command as Said}
-use Rattle.spd_solver.specs.declared.command.Command.TheVariants.{Solve}
 use Rattle.spd_solver.specs.declared.file.Unreadable.{Unreadable}
-use Rattle.spd_solver.specs.declared.small.unread.Unread.{Unread}
+use Rattle.spd_syntax.specs.declared.unread.Unread.{Unread}
+use Rattle.spd_syntax.specs.declared.unread.Unread.TheVariants as Unread
 use Rattle.spd_solver.specs.declared.solving.Unsolved.{Unsolved}
 use Rattle.spd_solver.specs.declared.status.Status.{Status}
-use Rattle.spd_solver.specs.Command.{Command, solve}
-use Rattle.spd_solver.specs.Solve.{state_text, value}
-
--- ---- words
-
--- the command that the code reads from the words, and its options
-abbrev pub said : Said → Command
-said (Solve file options) = solve file.now options
-
-abbrev pub options_of : Said → Options
-options_of (Solve file options) = options
+use Rattle.spd_solver.specs.Command.{Way, Command, solving}
+use Rattle.spd_solver.specs.Run.{Seen, Means, Completes, TellsRefusal}
+use Rattle.spd_solver.specs.Kind.{kind_of}
+use Rattle.spd_solver.specs.Solve.{state_text, value, HasFewStates, RefusesProcess}
 
 -- ---- files
 
@@ -55,7 +47,7 @@ unreadable_status Unreadable.Memory = Status.Memory
 -- ---- models
 
 abbrev pub unread_status : Unread → Status
-unread_status Unread.Refused = Status.Refused
+unread_status (Unread.Refused refusal) = Status.Refused refusal
 unread_status Unread.Memory = Status.Memory
 
 -- What the run of a process comes to: it is told of the turn at which the run stops, and the value there is near optimal.
@@ -65,6 +57,7 @@ pub record IsSolution (m : Process) (options : Options) (x : Solution) : Type 0 
   pub iterate : told x.iterate ≡ result_of m options.turns options.span
   pub near_optimal : IsNearOptimal m (value m options)
   pub fits : FitsModel m x.iterate
+  pub few : HasFewStates m
 
 -- a fault of a process, with the names of what is at fault
 abbrev pub told_fault : Process → PlainFault → Unsolved
@@ -78,6 +71,11 @@ unsolved_status (Unsolved.TooManyStates product) = Status.TooManyStates product
 unsolved_status (Unsolved.Sum action var state sum) = Status.Sum action var state sum
 unsolved_status (Unsolved.Range action state value) = Status.Range action state value
 unsolved_status Unsolved.Memory = Status.Memory
+
+-- why a process isn't solved; want of memory has no cause in the process
+abbrev pub IsUnsolved : Process → Unsolved → Type 0
+IsUnsolved m Unsolved.Memory = Unit {0}
+IsUnsolved m why = RefusesProcess m (unsolved_status why)
 
 -- `variable=value`, and what parts the word of this number from the one before it
 abbrev pub state_word : Var → ℕ → List ℕ
@@ -97,3 +95,9 @@ finished_status x = elim x.why [ Why.Done ↦ Status.Done | Why.Limit ↦ Status
 abbrev pub ending : Result Status Status → Status
 ending (Ok status) = status
 ending (Err status) = status
+
+-- What a command answers by its status, of what was seen before and after.
+pub record Answers (command : Command) (status : Status) (before now : Seen) : Type 0 where
+  pub means : Means (kind_of status) command status before now
+  pub completes : Completes (kind_of status) command before.inputs.holds
+  pub tells : TellsRefusal (kind_of status) command before.inputs.holds status
