@@ -8,7 +8,7 @@ use Rattle.spd_lex.specs.declared.token.Kind.TheVariants.{Open, Close, OpenSum, 
 use Rattle.spd_syntax.specs.declared.file.Word.{Word}
 use Rattle.spd_syntax.specs.declared.file.Counts.{Counts}
 use Rattle.spd_syntax.specs.declared.file.Quantity.{Quantity}
-use Rattle.spd_syntax.specs.declared.file.Quantity.TheVariants.{Diagram, Table, Reward}
+use Rattle.spd_syntax.specs.declared.file.Quantity.TheVariants.{Diagram, Table, Reward, Discount}
 use Rattle.spd_syntax.specs.declared.file.Shape.{Shape}
 use Rattle.spd_syntax.specs.declared.file.Variable.{Variable}
 use Rattle.spd_syntax.specs.declared.file.Item.{Item}
@@ -102,7 +102,7 @@ first_goes : (file : List ℕ) (c : Counts) (w : Word) (a b : List Token) → AV
 first_goes file c w a b v = goes_word file (first_value c) (more_values 1 c ∷ []) w a b v.word (then_ok (value_passes wants.Value w.from (text_of file w)) tt (more_values 1 c ∷ []) v.value.is)
 
 -- whether a word is the name of a value doesn't depend on what is wanted
-value_wanted : (v w : Want) (at : ℕ) (text : List ℕ) → value_passes v at text ≡ Ok tt → value_passes w at text ≡ Ok tt
+pub value_wanted : (v w : Want) (at : ℕ) (text : List ℕ) → value_passes v at text ≡ Ok tt → value_passes w at text ≡ Ok tt
 unfolding value_passes
 value_wanted v w at text e = grind (arith, e)
 
@@ -255,6 +255,21 @@ first_variable_only = record { others = other; at_end = λ end ps. refl }
     other : (k : Kind) (at : ℕ) (text : List ℕ) → (k ≡ Open → ⊥) → takes first_variable k at text ≡ Err (Expected at wants.Open)
     other Open at text differs = absurd (differs refl)
     other k at text differs = refl
+
+pub variables_empty : (file : List ℕ) (k : Counts) (vs : List Variable) (a e : List Token) (f : Refusal) → length vs ≡ 0 → AreVariables file none_yet vs k a e → Lacks Open e → f ≡ Expected (here file e) wants.Open
+    → Faults file (first_variable ∷ []) a f
+variables_empty file k (v ∷ vs) a e f none are lacks is = absurd (omega arith)
+variables_empty file k [] a e f none are lacks is =
+    faults_after file _ (first_variable ∷ []) a e f (stay file (first_variable ∷ []) a e are.1) (misses file first_variable Open wants.Open e f first_variable_only (record { lacks = lacks; fault = is }))
+
+pub variables_end : (file : List ℕ) (k : Counts) (vs : List Variable) (a e : List Token) (f : Refusal) → AreVariables file none_yet vs k a e → 0 < length vs → Lacks Open e → Misses file Close wants.Close e f
+    → Faults file (first_variable ∷ []) a f
+variables_end file k vs a e f are some lacks m = faults_after file _ (more_variables k ∷ []) a e f (first_move file k vs a e are some) (variables_stopped file k e f lacks m.lacks m.fault)
+
+-- variables add no decision diagrams and no actions
+pub variables_keep : (file : List ℕ) (c k : Counts) (vs : List Variable) (a e : List Token) → AreVariables file c vs k a e → (k.dds ≡ c.dds) × (k.actions ≡ c.actions)
+variables_keep file c k [] a e are = (ap (λ (d : Counts). d.dds) (sym are.0), ap (λ (d : Counts). d.actions) (sym are.0))
+variables_keep file c k (v ∷ vs) a e are = variables_keep file (after_variable c v) k vs are.1 e are.4
 
 -- ---- words of the grammar
 
@@ -619,6 +634,33 @@ pub sections_more : (file : List ℕ) (c k : Counts) (ss : List Section) (s : Se
 sections_more file c k [] s a e m are is =
     (m, subst (λ (l : List Token). ASection file c s l m) (sym are.1) (subst (λ (d : Counts). ASection file d s e m) (sym are.0) is), (ap (λ (d : Counts). after_section d s) are.0, refl))
 sections_more file c k (x ∷ ss) s a e m are is = (are.0, are.1, sections_more file (after_section c x) k ss s are.0 e m are.2 is)
+
+setting_keeps : (q : Quantity) (c : Counts) → ((after_setting q c).dds ≡ c.dds) × ((after_setting q c).actions ≡ c.actions)
+setting_keeps Discount c = (refl, refl)
+setting_keeps q c = (refl, refl)
+
+-- at most 4,096 decision diagrams and 64 actions were read
+pub section_keeps : (file : List ℕ) (c : Counts) (s : Section) (a e : List Token) → ASection file c s a e → c.dds ≤ 4096 → c.actions ≤ 64 → ((after_section c s).dds ≤ 4096) × ((after_section c s).actions ≤ 64)
+section_keeps file c s a e is dds actions = by_body s is.body
+  where
+    by_body : (s : Section) → IsBody file c (section_word (text_of file is.word)) is.word s is.b e → ((after_section c s).dds ≤ 4096) × ((after_section c s).actions ≤ 64)
+    by_body (sections.Dd name shape) body = (omega (arith, body.5), actions)
+    by_body (sections.Action name its end) body = (dds, omega (arith, body.3))
+    by_body (sections.Reward word parts) body = (dds, actions)
+    by_body (sections.Setting word q units) body = let keeps = setting_keeps q c in (omega (arith, keeps.0), omega (arith, keeps.1))
+
+-- the word of a section that is no other
+pub reward_else : (k : SectionWord) → (k ≡ Dd → ⊥) → (k ≡ Action → ⊥) → ((q : Quantity) → k ≡ Setting q → ⊥) → (k ≡ LeftOutSection → ⊥) → (k ≡ NoSection → ⊥) → k ≡ RewardWord
+reward_else Dd a b d l o = absurd (a refl)
+reward_else Action a b d l o = absurd (b refl)
+reward_else RewardWord a b d l o = refl
+reward_else (Setting q) a b d l o = absurd (d q refl)
+reward_else LeftOutSection a b d l o = absurd (l refl)
+reward_else NoSection a b d l o = absurd (o refl)
+
+pub none_left : (ts : List Token) → length ts ≡ 0 → ts ≡ []
+none_left [] e = refl
+none_left (t ∷ ts) e = absurd (omega arith)
 
 -- the file ends before each section that must stand was read
 pub sections_lack : (file : List ℕ) (c k : Counts) (ss : List Section) (a e : List Token) (f : Refusal) → AreSections file c ss k a e → e ≡ [] → has_all k ≡ false → f ≡ Expected (here file e) wants.Section → Faults file (section c ∷ []) a f

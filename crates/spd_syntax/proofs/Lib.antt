@@ -1,3 +1,7 @@
 mod Moves
 mod TreeMoves
-mod FileMoves
+pub mod FileMoves
+pub mod Accepted
+pub mod Unique
+mod FrontLaws
+pub mod CallerLemmas

@@ -117,7 +117,7 @@ head_opens file q n false a b one = more_opens file q n a b one
 
 -- ---- a whole tree lets the file go on
 
-first_opens : (file : List ℕ) (q : Quantity) (n : ℕ) {k : _} (row : Row_of-Branch k) (a e : List Token) → IsSome row → AreBranches file q n row a e → (b : List Token) × One Open a b
+pub first_opens : (file : List ℕ) (q : Quantity) (n : ℕ) {k : _} (row : Row_of-Branch k) (a e : List Token) → IsSome row → AreBranches file q n row a e → (b : List Token) × One Open a b
 first_opens file q n end_of-Branch a e some bs = absurd some
 first_opens file q n (more_of-Branch w kid row) a e some bs = (bs.0, bs.5)
 

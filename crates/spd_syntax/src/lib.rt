@@ -2,6 +2,7 @@
 #![tactic(auto)]
 
 mod file;
+mod laws;
 mod numbers;
 mod reader;
 mod refusal;
@@ -13,7 +14,8 @@ mod variables;
 mod words;
 
 pub use file::{Branch, Counts, File, Item, Quantity, Section, Shape, Variable, Word};
+pub use laws::{law_accepted, law_front, law_once, law_written};
 pub use refusal::{Refusal, Want, What};
 pub use sections::{ItemWord, SectionWord};
-pub use syntax::{law_written, read_syntax};
+pub use syntax::read_syntax;
 pub use unread::Unread;

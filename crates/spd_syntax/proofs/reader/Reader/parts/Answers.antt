@@ -1,4 +1,5 @@
-use Rattle.std.proofs.Common.{◌∷◌, []}
+use Rattle.std.proofs.Common.{◌∷◌, [], ◌++◌, ◌∙◌, ap, List}
+use Rattle.spd_syntax.specs.declared.file.Shape.{Shape}
 use Rattle.spd_syntax.specs.Positions.{part}
 use Rattle.spd_syntax.specs.Files.{a_tree, a_sum}
 use Rattle.spd_syntax.proofs.Moves.{same_exit, ok_map, err_map}
@@ -19,4 +20,4 @@ returns-in_err-tree-clause-err c =
     same_exit file (part ∷ []) c.args.tokens.now c.from_residual.result u c.from_residual.ensures.1 (part_of_tree file c.args.tokens.now u c.in_default.ensures c.in_err-tree.ensures.err)
 
 pub returns-clause-ok : goal.returns-clause-ok
-returns-clause-ok c = a_tree c.in_ok-tree.tree c.in_ok-push.ensures.ok c.in_ok-tree.ensures.ok
+returns-clause-ok c = a_tree c.in_ok-tree.tree (c.in_ok-push.ensures.ok ∙ ap (λ (l : List Shape). l ++ c.in_ok-tree.tree ∷ []) c.new-trees.ensures) c.in_ok-tree.ensures.ok

@@ -1,0 +1,4 @@
+pub mod Faults
+pub mod Trees
+pub mod Models
+pub mod Reading
