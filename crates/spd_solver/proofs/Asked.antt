@@ -1,30 +1,45 @@
--- What the words ask for, once.
-use Rattle.std.proofs.Common.{◌≡◌, ℕ, ◌⊎◌, inl, inr, List, Option, Some, None, sym, ap, subst, ◌∙◌}
+-- What the words ask the top call for, by what reading them comes to.
+use Rattle.std.proofs.Common.{◌≡◌, ℕ, ◌⊎◌, inl, inr, List, Option, Some, None, Result, Ok, Err, sym, ap, subst, ◌∙◌}
 use Rattle.std.proofs.lemmas.Option.{same_Some, none-some}
-use Rattle.spd_words.specs.declared.Command.{Command as Said}
-use Rattle.spd_words.specs.Words.{IsCommand}
-use Rattle.spd_words.proofs.CallerLemmas.{one_command, not_usage, one_usage}
-use Rattle.spd_solver.specs.Command.{Command, command_of, AskFor, OnCommand, IsUsage}
+use Rattle.spd_words.specs.declared.command.Command.{Command as Said}
+use Rattle.spd_words.specs.declared.fault.WordsFault.{WordsFault}
+use Rattle.spd_words.specs.declared.fault.WordsFault.TheVariants as WordsFault
+use Rattle.spd_words.specs.Commands.{IsCommand, IsUsage as IsNoCommand}
+use Rattle.spd_solver.specs.Command.{Command, command_of, AskFor, IsUsage}
 
--- words ask for one command
-asked_once : (words : List (List ℕ)) (c d : Command) → AskFor words c → AskFor words d → c ≡ d
-asked_once words c d first second =
-    let same = one_command words first.0 second.0 first.1 second.1 in
-    same_Some c d (sym first.2 ∙ ap (command_of words) same ∙ second.2)
+module _ (words : List (List ℕ)) (read : Result Said WordsFault) (every_command : (c : Said) → IsCommand words c → read ≡ Ok c)
+    (every_usage : (word : ℕ) → IsNoCommand words word → read ≡ Err (WordsFault.Usage word)) where
+  -- ---- the words are this command
 
--- what is said of the command that words ask for is said of each that they ask for
-pub on_command : (words : List (List ℕ)) (command : Command) (P : Command → Type 0) → AskFor words command → P command → OnCommand words P
-on_command words command P asks p = λ other also. subst P (asked_once words command other asks also) p
+  module _ (said : Said) (is : read ≡ Ok said) where
+    same_said : (other : Said) → IsCommand words other → other ≡ said
+    same_said other also = cc (every_command other also)
 
--- words that ask for a command aren't wrong
-pub asked_right : (words : List (List ℕ)) (command : Command) (word : ℕ) → AskFor words command → IsUsage words word → ⊥
-asked_right words command word asks (inl wrong) = not_usage words asks.0 word asks.1 wrong
-asked_right words command word asks (inr other) =
-    none-some command (sym other.1.2 ∙ ap (command_of words) (one_command words other.1.0 asks.0 other.1.1 asks.1) ∙ asks.2)
+    no_fault : (word : ℕ) → IsNoCommand words word → ⊥
+    no_fault word wrong = cc (every_usage word wrong)
 
--- wrong words are wrong at one word
-pub one_word : (words : List (List ℕ)) (p q : ℕ) → IsUsage words p → IsUsage words q → p ≡ q
-one_word words p q (inl h) (inl k) = one_usage words p q h k
-one_word words p q (inl h) (inr k) = absurd (not_usage words k.1.0 p k.1.1 h)
-one_word words p q (inr h) (inl k) = absurd (not_usage words h.1.0 q h.1.1 k)
-one_word words p q (inr h) (inr k) = h.0 ∙ sym k.0
+    -- where it is one that the top call runs
+    pub asked_once : (command : Command) → command_of words said ≡ Some command → (other : Command) → AskFor words other → other ≡ command
+    asked_once command runs other asks = same_Some other command (sym asks.2 ∙ ap (command_of words) (same_said asks.0 asks.1) ∙ runs)
+
+    pub asked_right : (command : Command) → command_of words said ≡ Some command → (word : ℕ) → IsUsage words word → ⊥
+    asked_right command runs word (inl wrong) = no_fault word wrong
+    asked_right command runs word (inr other) = none-some command (sym other.1.2 ∙ ap (command_of words) (same_said other.1.0 other.1.1) ∙ runs)
+
+    -- where it is none
+    pub asked_none : command_of words said ≡ None → (command : Command) → AskFor words command → ⊥
+    asked_none none command asks = none-some command (sym none ∙ ap (command_of words) (sym (same_said asks.0 asks.1)) ∙ asks.2)
+
+    pub asked_other : (word : ℕ) → IsUsage words word → word ≡ 0
+    asked_other word (inl wrong) = absurd (no_fault word wrong)
+    asked_other word (inr other) = other.0
+
+  -- ---- the words are no command
+
+  module _ (word : ℕ) (is : read ≡ Err (WordsFault.Usage word)) where
+    pub asked_nothing : (command : Command) → AskFor words command → ⊥
+    asked_nothing command asks = cc (every_command asks.0 asks.1)
+
+    pub asked_wrong : (other : ℕ) → IsUsage words other → other ≡ word
+    asked_wrong other (inl wrong) = cc (every_usage other wrong)
+    asked_wrong other (inr said) = cc (every_command said.1.0 said.1.1)

@@ -13,7 +13,7 @@ use Rattle.spd_model.specs.ResultText.{Iterate, text_of}
 use Rattle.spd_frozen.specs.Told.{told}
 use Rattle.spd_syntax.specs.declared.unread.Unread.{Unread}
 use Rattle.spd_syntax.specs.declared.unread.Unread.TheVariants as Unread
-use Rattle.spd_reader.specs.Files.{IsRead, TellsRefusal as TellsFault}
+use Rattle.spd_reader.specs.Reading.{IsRead, TellsRefusal as TellsFault}
 use Rattle.spd_solver.specs.declared.file.Unreadable.{Unreadable}
 use Rattle.spd_solver.specs.declared.file.Unreadable.TheVariants as Unreadable
 use Rattle.spd_solver.specs.declared.solving.Solution.{Solution}

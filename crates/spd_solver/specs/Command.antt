@@ -1,9 +1,10 @@
 -- What the words of the command ask the top call for.
-use Rattle.std.specs.Prelude.{ℕ, ◌≡◌, ◌⊎◌, List, [], get_or, Option, Some, None, IfSome}
+use Rattle.std.specs.Prelude.{ℕ, ◌≡◌, ◌⊎◌, List, Option, Some, None}
 use Rattle.spd_model.specs.declared.options.Options.{Options}
-use Rattle.spd_words.specs.declared.Command.{Command as Said}
-use Rattle.spd_words.specs.declared.Command.TheVariants as Said
-use Rattle.spd_words.specs.Words.{IsCommand, IsUsage as IsNoCommand}
+use Rattle.spd_words.specs.declared.command.Command.{Command as Said}
+use Rattle.spd_words.specs.declared.command.Command.TheVariants as Said
+use Rattle.spd_words.specs.Commands.{IsCommand, IsUsage as IsNoCommand}
+use Rattle.spd_words.specs.Standing.{text_at}
 
 -- The two ways to solve a model: `solve`, and `plain`, which goes over tables. Until `solve` goes over decision diagrams it goes over
 -- tables too.
@@ -18,8 +19,8 @@ pub data Command : Type 0 where
 
 -- the command that words say, where it is one that the top call runs; a file's name is the word of its number
 abbrev pub command_of : List (List ℕ) → Said → Option Command
-command_of words (Said.Solve file options) = Some (solving solve (get_or words file []) options)
-command_of words (Said.Plain file options) = Some (solving plain (get_or words file []) options)
+command_of words (Said.Solve file options) = Some (solving solve (text_at words file) options)
+command_of words (Said.Plain file options) = Some (solving plain (text_at words file) options)
 command_of words _ = None
 
 -- the words ask for this command

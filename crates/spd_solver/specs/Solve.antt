@@ -12,7 +12,7 @@ use Rattle.spd_plain.specs.Space.{state_limit, first_large_product}
 use Rattle.spd_bellman.specs.Bound.{IsNearOptimal}
 use Rattle.spd_model.specs.declared.options.Options.{Options}
 use Rattle.spd_solver.specs.declared.status.Status.{Status}
-use Rattle.spd_reader.specs.Files.{IsRead, IsRefused}
+use Rattle.spd_reader.specs.Reading.{IsRead, IsRefused}
 use Rattle.spd_solver.specs.declared.status.Status.TheVariants.{Done, TooLong, Refused, TooManyStates, Sum as WrongSum, Range as WideReward, TurnLimit}
 
 -- the most bytes that a model file may have

@@ -21,10 +21,25 @@ use Rattle.spd_syntax.specs.declared.unread.Unread.{Unread}
 use Rattle.spd_syntax.specs.declared.unread.Unread.TheVariants as Unread
 use Rattle.spd_solver.specs.declared.solving.Unsolved.{Unsolved}
 use Rattle.spd_solver.specs.declared.status.Status.{Status}
-use Rattle.spd_solver.specs.Command.{Way, Command, solving}
+use Rattle.spd_solver.specs.Command.{Way, Command, solving, AskFor, IsUsage}
 use Rattle.spd_solver.specs.Run.{Seen, Means, Completes, TellsRefusal}
 use Rattle.spd_solver.specs.Kind.{kind_of}
 use Rattle.spd_solver.specs.Solve.{state_text, value, HasFewStates, RefusesProcess}
+
+-- ---- words
+
+-- the words ask for solving the model in a file of this name with these options, and for nothing else
+pub record Asks (words : List (List ℕ)) (file : List ℕ) (options : Options) : Type 0 where
+  pub way : Way
+  pub asked : AskFor words (solving way file options)
+  pub once : (other : Command) → AskFor words other → other ≡ solving way file options
+  pub right : (word : ℕ) → IsUsage words word → ⊥
+
+-- the words can't be run, from the word of this number on
+pub record AskWrongly (words : List (List ℕ)) (word : ℕ) : Type 0 where
+  pub wrong : IsUsage words word
+  pub once : (other : ℕ) → IsUsage words other → other ≡ word
+  pub nothing : (command : Command) → AskFor words command → ⊥
 
 -- ---- files
 
