@@ -231,9 +231,13 @@ item_word_stands file c K rs ps w b a ATable word is took h =
     let says = judged (name_passes wants.Name w.from (text_of file w)) (Ok (tree Table 0 ∷ item c ∷ [])) rs took in
     let r = went file (tree Table 0 ∷ item c ∷ []) rs ps a says.2 h in
     let rest = r.3 in
-    let are = rest.3 in
-    (items.Table w r.0 ∷ rest.0, rest.1, rest.2,
-    record { b = are.b; items = (r.1, (a, record { word = word; name = record { is = says.1 } }, is, r.2), are.items); word = are.word; ends = are.ends }, rest.4)
+    let are = rest.3 in (
+      items.Table w r.0 ∷ rest.0,
+      rest.1,
+      rest.2,
+      record { b = are.b; items = (r.1, (a, record { word = word; name = record { is = says.1 } }, is, r.2), are.items); word = are.word; ends = are.ends },
+      rest.4,
+    )
 
 -- a name that is declared
 declared_word : (file : List ℕ) (what : What) (most n : ℕ) (next : Step) (rs : List Position) (w : Word) (b a : List Token) → AWord w b a → (name_passes wants.Name w.from (text_of file w) then counted what most n w.from next) ≡ Ok rs
@@ -264,10 +268,12 @@ first_value_word : (file : List ℕ) (c : Counts) (K : List Token → Type 0) (r
 first_value_word file c K rs ps w b a word took h room =
     let says = judged (value_passes wants.Value w.from (text_of file w)) (Ok (more_values 1 c ∷ [])) rs took in
     let r = went file (more_values 1 c ∷ []) rs ps a says.2 h (lit< tt) room in
-    let count : length r.0 ≡ suc (length r.0) - 1 = omega arith in
-    (w ∷ r.0, r.2,
-    record { b = r.1; each = (a, record { word = word; value = record { is = says.1 } }, r.3); close = r.4; some = omega arith; few = omega (arith, r.5); few_tests = omega (arith, r.6) },
-    subst (λ (m : ℕ). Variables file (with_tests c m) r.2) count r.7)
+    let count : length r.0 ≡ suc (length r.0) - 1 = omega arith in (
+      w ∷ r.0,
+      r.2,
+      record { b = r.1; each = (a, record { word = word; value = record { is = says.1 } }, r.3); close = r.4; some = omega arith; few = omega (arith, r.5); few_tests = omega (arith, r.6) },
+      subst (λ (m : ℕ). Variables file (with_tests c m) r.2) count r.7,
+    )
 
 more_values_close : (file : List ℕ) (n : ℕ) (c : Counts) (K : List Token → Type 0) (b a : List Token) → One Close b a → Stands file (more_variables c) K a → Stands file (more_values n c) K b
 more_values_close file n c K b a one h few tests = ([], b, a, refl, one, omega arith, omega arith, same_tests file c (c.tests + 0) a (omega arith) (h tests))
@@ -280,9 +286,16 @@ more_values_word file n c K rs ps w b a word took h few tests =
     let values = within whats.Values 64 n w.from (counted whats.Tests 256 c.tests w.from (Ok qs)) rs says.2 in
     let some = within whats.Tests 256 c.tests w.from (Ok qs) rs values.1 in
     let r = went file qs rs ps a some.1 h (omega (arith, values.0)) (omega (arith, some.0)) in
-    let count : c.tests + 1 + length r.0 ≡ c.tests + suc (length r.0) = omega arith in
-    (w ∷ r.0, r.1, r.2, (a, record { word = word; value = record { is = value_wanted wants.Close wants.Value w.from (text_of file w) says.1 } }, r.3), r.4, omega (arith, r.5), omega (arith, r.6),
-    subst (λ (m : ℕ). Variables file (record c { tests = m }) r.2) count r.7)
+    let count : c.tests + 1 + length r.0 ≡ c.tests + suc (length r.0) = omega arith in (
+      w ∷ r.0,
+      r.1,
+      r.2,
+      (a, record { word = word; value = record { is = value_wanted wants.Close wants.Value w.from (text_of file w) says.1 } }, r.3),
+      r.4,
+      omega (arith, r.5),
+      omega (arith, r.6),
+      subst (λ (m : ℕ). Variables file (record c { tests = m }) r.2) count r.7,
+    )
 
 variable_word : (file : List ℕ) (c : Counts) (K : List Token → Type 0) (rs ps : List Position) (w : Word) (b a : List Token) → AWord w b a → takes (variable_name c) WordKind w.from (text_of file w) ≡ Ok rs → AllStand file (rs ++ ps) a
     → Stands file (variable_name c) K b
@@ -312,9 +325,10 @@ is_one k t a kind = record { token = t; kind = kind; first = refl }
 step : (file : List ℕ) (p : Position) (rs ps : List Position) (t : Token) (a : List Token) (k : Kind) → t.kind ≡ k → takes p k t.from (text_of file (word_of t)) ≡ Ok rs → AllStand file (rs ++ ps) a → Stands file p (AllStand file ps) (t ∷ a)
 step file file_begins rs ps t a Open kind took h =
     let r = went file (variables_word ∷ []) rs ps a took h in
-    let vs = r.3 in
-    (record { variables = vs.list; sections = vs.behind.list },
-    record { a = a; b = r.1; d = vs.b; e = vs.d; word = r.0; counts = vs.counts; opens = is_one Open t a kind; key = r.2; some = r.4; variables = vs.are; closes = vs.closes; all = vs.behind.counts; sections = vs.behind.are; has_all = vs.behind.all })
+    let vs = r.3 in (
+      record { variables = vs.list; sections = vs.behind.list },
+      record { a = a; b = r.1; d = vs.b; e = vs.d; word = r.0; counts = vs.counts; opens = is_one Open t a kind; key = r.2; some = r.4; variables = vs.are; closes = vs.closes; all = vs.behind.counts; sections = vs.behind.are; has_all = vs.behind.all },
+    )
 step file variables_word rs ps t a WordKind kind took h =
     let says = key_word file (codes "variables") (word_of t) (first_variable ∷ []) rs (Expected t.from wants.Variables) (t ∷ a) a (is_word t a kind) took in
     let r = went file (first_variable ∷ []) rs ps a says.1 h in

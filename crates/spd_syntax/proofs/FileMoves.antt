@@ -112,9 +112,11 @@ judged_says n tests at text e = by_name (value_passes wants.Close at text) refl 
     by_tests : (b : Bool) → nat_lt tests 256 ≡ b → Ok (tt {0}) ≡ cond b (Ok (tt {0})) (Err (TooMany at whats.Tests)) → tests < 256
     by_tests true t e = grind (arith, nat_tests)
     by_tests false t e = absurd (cc)
+
     by_values : (b : Bool) → nat_lt n 64 ≡ b → Ok (tt {0}) ≡ cond b (counted whats.Tests 256 tests at (Ok (tt {0}))) (Err (TooMany at whats.Values)) → (n < 64) × (tests < 256)
     by_values true t e = (grind (arith, nat_tests), by_tests (nat_lt tests 256) refl e)
     by_values false t e = absurd (cc)
+
     by_name : (r : Result (Unit {0}) Refusal) → value_passes wants.Close at text ≡ r → Ok (tt {0}) ≡ (r then counted whats.Values 64 n at (counted whats.Tests 256 tests at (Ok (tt {0})))) → (r ≡ Ok (tt {0})) × (n < 64) × (tests < 256)
     by_name (Ok x) t e = let more = by_values (nat_lt n 64) refl e in (refl, more.0, more.1)
     by_name (Err f) t e = absurd (cc)
@@ -131,10 +133,12 @@ judged_stops n at c text f e = by_name (value_passes wants.Close at text) e
     by_tests : (b : Bool) → Err f ≡ cond b (Ok (tt {0})) (Err (TooMany at whats.Tests)) → cond b (Ok (more_values (n + 1) (one_test c) ∷ [])) (Err (TooMany at whats.Tests)) ≡ Err f
     by_tests true e = absurd (cc)
     by_tests false e = let same : f ≡ TooMany at whats.Tests = cc in ap (λ (r : Refusal). Err r) (sym same)
+
     by_values : (b : Bool) → Err f ≡ cond b (counted whats.Tests 256 c.tests at (Ok (tt {0}))) (Err (TooMany at whats.Values))
         → cond b (counted whats.Tests 256 c.tests at (Ok (more_values (n + 1) (one_test c) ∷ []))) (Err (TooMany at whats.Values)) ≡ Err f
     by_values true e = by_tests (nat_lt c.tests 256) e
     by_values false e = let same : f ≡ TooMany at whats.Values = cc in ap (λ (r : Refusal). Err r) (sym same)
+
     by_name : (r : Result (Unit {0}) Refusal) → Err f ≡ (r then counted whats.Values 64 n at (counted whats.Tests 256 c.tests at (Ok (tt {0}))))
         → (r then counted whats.Values 64 n at (counted whats.Tests 256 c.tests at (Ok (more_values (n + 1) (one_test c) ∷ [])))) ≡ Err f
     by_name (Ok x) e = by_values (nat_lt n 64) e
@@ -188,8 +192,9 @@ has_values_move file c vs a e is =
 pub values_stopped : (file : List ℕ) (n : ℕ) (c : Counts) (ts : List Token) (f : Refusal) → Lacks WordKind ts → Lacks Close ts → f ≡ Expected (here file ts) wants.Close → Faults file (more_values n c ∷ []) ts f
 unfolding fault_from
 values_stopped file n c [] f lw lc is = record { is = λ behind. ap (λ (r : Refusal). Some r) (sym is) }
-values_stopped file n c (t ∷ ts) f lw lc is = record { is = λ behind.
-    ap (fault_step (λ rs. fault_from file (rs ++ behind) ts)) (other t.kind lw lc t.from (text_of file (record { from = t.from; to = t.to }))) ∙ ap (λ (r : Refusal). Some r) (sym is);
+values_stopped file n c (t ∷ ts) f lw lc is = record {
+  is = λ behind.
+      ap (fault_step (λ rs. fault_from file (rs ++ behind) ts)) (other t.kind lw lc t.from (text_of file (record { from = t.from; to = t.to }))) ∙ ap (λ (r : Refusal). Some r) (sym is);
 }
   where
     other : (k : Kind) → (k ≡ WordKind → ⊥) → (k ≡ Close → ⊥) → (at : ℕ) (text : List ℕ) → takes (more_values n c) k at text ≡ Err (Expected at wants.Close)
@@ -240,8 +245,9 @@ variables_more file c k (x ∷ vs) v a e b m are one is = (are.0, are.1, are.2, 
 pub variables_stopped : (file : List ℕ) (c : Counts) (ts : List Token) (f : Refusal) → Lacks Open ts → Lacks Close ts → f ≡ Expected (here file ts) wants.Close → Faults file (more_variables c ∷ []) ts f
 unfolding fault_from
 variables_stopped file c [] f lo lc is = record { is = λ behind. ap (λ (r : Refusal). Some r) (sym is) }
-variables_stopped file c (t ∷ ts) f lo lc is = record { is = λ behind.
-    ap (fault_step (λ rs. fault_from file (rs ++ behind) ts)) (other t.kind lo lc t.from (text_of file (record { from = t.from; to = t.to }))) ∙ ap (λ (r : Refusal). Some r) (sym is);
+variables_stopped file c (t ∷ ts) f lo lc is = record {
+  is = λ behind.
+      ap (fault_step (λ rs. fault_from file (rs ++ behind) ts)) (other t.kind lo lc t.from (text_of file (record { from = t.from; to = t.to }))) ∙ ap (λ (r : Refusal). Some r) (sym is);
 }
   where
     other : (k : Kind) → (k ≡ Open → ⊥) → (k ≡ Close → ⊥) → (at : ℕ) (text : List ℕ) → takes (more_variables c) k at text ≡ Err (Expected at wants.Close)
@@ -409,8 +415,9 @@ no_other_word file c a b f one lacks e =
 pub section_stopped : (file : List ℕ) (c : Counts) (ts : List Token) (f : Refusal) → 0 < length ts → Lacks WordKind ts → Lacks Open ts → f ≡ Expected (here file ts) wants.Section → Faults file (section c ∷ []) ts f
 unfolding fault_from
 section_stopped file c [] f some lw lo is = absurd (omega arith)
-section_stopped file c (t ∷ ts) f some lw lo is = record { is = λ behind.
-    ap (fault_step (λ rs. fault_from file (rs ++ behind) ts)) (other t.kind lw lo t.from (text_of file (record { from = t.from; to = t.to }))) ∙ ap (λ (r : Refusal). Some r) (sym is);
+section_stopped file c (t ∷ ts) f some lw lo is = record {
+  is = λ behind.
+      ap (fault_step (λ rs. fault_from file (rs ++ behind) ts)) (other t.kind lw lo t.from (text_of file (record { from = t.from; to = t.to }))) ∙ ap (λ (r : Refusal). Some r) (sym is);
 }
   where
     other : (k : Kind) → (k ≡ WordKind → ⊥) → (k ≡ Open → ⊥) → (at : ℕ) (text : List ℕ) → takes (section c) k at text ≡ Err (Expected at wants.Section)
@@ -458,8 +465,9 @@ trees_inside file ts a b d u each some one fails =
 parts_stopped : (file : List ℕ) (ts : List Token) (f : Refusal) → Lacks Open ts → Lacks CloseSum ts → f ≡ Expected (here file ts) wants.Close → Faults file (more_parts ∷ []) ts f
 unfolding fault_from
 parts_stopped file [] f lo lc is = record { is = λ behind. ap (λ (r : Refusal). Some r) (sym is) }
-parts_stopped file (t ∷ ts) f lo lc is = record { is = λ behind.
-    ap (fault_step (λ rs. fault_from file (rs ++ behind) ts)) (other t.kind lo lc t.from (text_of file (record { from = t.from; to = t.to }))) ∙ ap (λ (r : Refusal). Some r) (sym is);
+parts_stopped file (t ∷ ts) f lo lc is = record {
+  is = λ behind.
+      ap (fault_step (λ rs. fault_from file (rs ++ behind) ts)) (other t.kind lo lc t.from (text_of file (record { from = t.from; to = t.to }))) ∙ ap (λ (r : Refusal). Some r) (sym is);
 }
   where
     other : (k : Kind) → (k ≡ Open → ⊥) → (k ≡ CloseSum → ⊥) → (at : ℕ) (text : List ℕ) → takes more_parts k at text ≡ Err (Expected at wants.Close)

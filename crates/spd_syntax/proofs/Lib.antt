@@ -1,3 +1,4 @@
+mod Rows
 mod Moves
 mod TreeMoves
 pub mod FileMoves

@@ -48,39 +48,44 @@ fails_after file ps qs a b Memory moves fails = tt
 
 pub goes : (file : List ℕ) (p : Position) (qs : List Position) (kind : Kind) (a b : List Token) → One kind a b → ((at : ℕ) (text : List ℕ) → takes p kind at text ≡ Ok qs) → Moves file (p ∷ []) a qs b
 unfolding fault_from
-goes file p qs kind a b one h = record { is = λ behind.
-    let w : Word = record { from = one.token.from; to = one.token.to } in
-    ap (λ (l : List Token). fault_from file (p ∷ behind) l) one.first
-    ∙ ap (fault_step (λ rs. fault_from file (rs ++ behind) b)) (ap (λ (k : Kind). takes p k one.token.from (text_of file w)) one.kind ∙ h one.token.from (text_of file w));
+goes file p qs kind a b one h = record {
+  is = λ behind.
+      let w : Word = record { from = one.token.from; to = one.token.to } in
+      ap (λ (l : List Token). fault_from file (p ∷ behind) l) one.first
+      ∙ ap (fault_step (λ rs. fault_from file (rs ++ behind) b)) (ap (λ (k : Kind). takes p k one.token.from (text_of file w)) one.kind ∙ h one.token.from (text_of file w));
 }
 
 -- what is next behind a token may depend on its place
 pub goes_at : (file : List ℕ) (p : Position) (qs : ℕ → List Position) (kind : Kind) (a b : List Token) (one : One kind a b) → ((at : ℕ) (text : List ℕ) → takes p kind at text ≡ Ok (qs at)) → Moves file (p ∷ []) a (qs one.token.from) b
 unfolding fault_from
-goes_at file p qs kind a b one h = record { is = λ behind.
-    let w : Word = record { from = one.token.from; to = one.token.to } in
-    ap (λ (l : List Token). fault_from file (p ∷ behind) l) one.first
-    ∙ ap (fault_step (λ rs. fault_from file (rs ++ behind) b)) (ap (λ (k : Kind). takes p k one.token.from (text_of file w)) one.kind ∙ h one.token.from (text_of file w));
+goes_at file p qs kind a b one h = record {
+  is = λ behind.
+      let w : Word = record { from = one.token.from; to = one.token.to } in
+      ap (λ (l : List Token). fault_from file (p ∷ behind) l) one.first
+      ∙ ap (fault_step (λ rs. fault_from file (rs ++ behind) b)) (ap (λ (k : Kind). takes p k one.token.from (text_of file w)) one.kind ∙ h one.token.from (text_of file w));
 }
 
 pub goes_word : (file : List ℕ) (p : Position) (qs : List Position) (w : Word) (a b : List Token) → AWord w a b → takes p WordKind w.from (text_of file w) ≡ Ok qs → Moves file (p ∷ []) a qs b
 unfolding fault_from
-goes_word file p qs w a b word h = record { is = λ behind.
-    ap (λ (l : List Token). fault_from file (p ∷ behind) l) word.first ∙ ap (fault_step (λ rs. fault_from file (rs ++ behind) b)) h;
+goes_word file p qs w a b word h = record {
+  is = λ behind.
+      ap (λ (l : List Token). fault_from file (p ∷ behind) l) word.first ∙ ap (fault_step (λ rs. fault_from file (rs ++ behind) b)) h;
 }
 
 pub stops_word : (file : List ℕ) (p : Position) (w : Word) (a b : List Token) (f : Refusal) → AWord w a b → takes p WordKind w.from (text_of file w) ≡ Err f → Faults file (p ∷ []) a f
 unfolding fault_from
-stops_word file p w a b f word h = record { is = λ behind.
-    ap (λ (l : List Token). fault_from file (p ∷ behind) l) word.first ∙ ap (fault_step (λ rs. fault_from file (rs ++ behind) b)) h;
+stops_word file p w a b f word h = record {
+  is = λ behind.
+      ap (λ (l : List Token). fault_from file (p ∷ behind) l) word.first ∙ ap (fault_step (λ rs. fault_from file (rs ++ behind) b)) h;
 }
 
 pub stops_one : (file : List ℕ) (p : Position) (kind : Kind) (a b : List Token) (f : ℕ → Refusal) (one : One kind a b) → ((at : ℕ) (text : List ℕ) → takes p kind at text ≡ Err (f at)) → Faults file (p ∷ []) a (f one.token.from)
 unfolding fault_from
-stops_one file p kind a b f one h = record { is = λ behind.
-    let w : Word = record { from = one.token.from; to = one.token.to } in
-    ap (λ (l : List Token). fault_from file (p ∷ behind) l) one.first
-    ∙ ap (fault_step (λ rs. fault_from file (rs ++ behind) b)) (ap (λ (k : Kind). takes p k one.token.from (text_of file w)) one.kind ∙ h one.token.from (text_of file w));
+stops_one file p kind a b f one h = record {
+  is = λ behind.
+      let w : Word = record { from = one.token.from; to = one.token.to } in
+      ap (λ (l : List Token). fault_from file (p ∷ behind) l) one.first
+      ∙ ap (fault_step (λ rs. fault_from file (rs ++ behind) b)) (ap (λ (k : Kind). takes p k one.token.from (text_of file w)) one.kind ∙ h one.token.from (text_of file w));
 }
 
 -- the only kind of token with which a position goes on

@@ -175,9 +175,16 @@ some_from_length (more_of-Branch w kid row) h = tt
 pub is_choice : (file : List ℕ) (q : Quantity) (n : ℕ) (primed : Bool) (head w : Word) (bs : List Branch) (a b c e : List Token) → AWord head a b → HaveBranches file q n bs b c → One Close c e → 0 < length bs
     → IsHead file primed head w → IsInside file q n (Choice w primed bs) a e
 is_choice file q n primed head w bs a b c e word have close some is =
-    let row = hidden-the_row-Branch-0 bs in
-    (b, c, head, word, are_from_have file q n row b c (subst (λ xs. HaveBranches file q n xs b c) (sym (items_hidden-the_row-Branch-0 bs)) have), close,
-    some_from_length row (subst (λ xs. 0 < length xs) (sym (items_hidden-the_row-Branch-0 bs)) some), is)
+    let row = hidden-the_row-Branch-0 bs in (
+      b,
+      c,
+      head,
+      word,
+      are_from_have file q n row b c (subst (λ xs. HaveBranches file q n xs b c) (sym (items_hidden-the_row-Branch-0 bs)) have),
+      close,
+      some_from_length row (subst (λ xs. 0 < length xs) (sym (items_hidden-the_row-Branch-0 bs)) some),
+      is,
+    )
 
 have_moves : (file : List ℕ) (q : Quantity) (n : ℕ) (bs : List Branch) (a e : List Token) → HaveBranches file q n bs a e → Moves file (more_branches q n ∷ []) a (more_branches q n ∷ []) e
 have_moves file q n [] a e h = stay file (more_branches q n ∷ []) a e h
@@ -202,8 +209,9 @@ head_next file q n primed (x ∷ bs) a e b h one = then_moves file _ (more_branc
 more_stopped : (file : List ℕ) (q : Quantity) (n : ℕ) (ts : List Token) (f : Refusal) → Lacks Open ts → Lacks Close ts → f ≡ Expected (here file ts) wants.Close → Faults file (more_branches q n ∷ []) ts f
 unfolding fault_from
 more_stopped file q n [] f lo lc is = record { is = λ behind. ap (λ (r : Refusal). Some r) (sym is) }
-more_stopped file q n (t ∷ ts) f lo lc is = record { is = λ behind.
-    ap (fault_step (λ rs. fault_from file (rs ++ behind) ts)) (other t.kind lo lc t.from (text_of file (record { from = t.from; to = t.to }))) ∙ ap (λ (r : Refusal). Some r) (sym is);
+more_stopped file q n (t ∷ ts) f lo lc is = record {
+  is = λ behind.
+      ap (fault_step (λ rs. fault_from file (rs ++ behind) ts)) (other t.kind lo lc t.from (text_of file (record { from = t.from; to = t.to }))) ∙ ap (λ (r : Refusal). Some r) (sym is);
 }
   where
     other : (k : Kind) → (k ≡ Open → ⊥) → (k ≡ Close → ⊥) → (at : ℕ) (text : List ℕ) → takes (more_branches q n) k at text ≡ Err (Expected at wants.Close)

@@ -53,6 +53,7 @@ words_same w v a b c d same l r =
   where
     word_of : Token → Word
     word_of t = record { from = t.from; to = t.to }
+
     heads : {t u : Token} → t ∷ c ≡ u ∷ d → t ≡ u
     heads e = cc
 
@@ -75,6 +76,7 @@ units_same file q p w v x y quantities words l r = oks (sym l.is ∙ ap (λ (o :
   where
     good : ℤ → Result ℤ Refusal
     good z = Ok z
+
     oks : good x ≡ Ok y → x ≡ y
     oks e = cc
 
@@ -112,9 +114,11 @@ mutual
       let words = words_same l.2 r.2 a b l.0 r.0 same l.3 r.3 in
       let marks : primed ≡ marked = sym l.7.mark ∙ ap (λ (u : Word). is_primed (text_of file u)) words.0 ∙ r.7.mark in
       let names : w ≡ v = l.7.word ∙ ap (λ (p : Bool). unmarked p l.2) marks ∙ ap (λ (u : Word). unmarked marked u) words.0 ∙ sym r.7.word in
-      let rows = rows_same file q n row other l.0 r.0 l.1 r.1 c d words.1 l.4 l.5 r.4 r.5 in
-      (sym (rolled w primed k row) ∙ ap (λ (u : Word). Choice u primed (items-the_row-Branch _ row)) names ∙ ap (λ (p : Bool). Choice v p (items-the_row-Branch _ row)) marks ∙ ap (λ (bs : List Branch). Choice v marked bs) rows.0
-      ∙ rolled v marked m other, rows.1)
+      let rows = rows_same file q n row other l.0 r.0 l.1 r.1 c d words.1 l.4 l.5 r.4 r.5 in (
+        sym (rolled w primed k row) ∙ ap (λ (u : Word). Choice u primed (items-the_row-Branch _ row)) names ∙ ap (λ (p : Bool). Choice v p (items-the_row-Branch _ row)) marks ∙ ap (λ (bs : List Branch). Choice v marked bs) rows.0
+            ∙ rolled v marked m other,
+        rows.1,
+      )
 
   rows_same : (file : List ℕ) (q : Quantity) (n : ℕ) {k m : _} (row : Row_of-Branch k) (other : Row_of-Branch m) (a b c d e f : List Token) → a ≡ b → AreBranches file q n row a c → One Close c e → AreBranches file q n other b d → One Close d f
       → (items-the_row-Branch k row ≡ items-the_row-Branch m other) × (e ≡ f)
@@ -125,9 +129,11 @@ mutual
       let opens = one_same Open a b l.0 r.0 same l.5 r.5 in
       let words = words_same w v l.0 r.0 l.1 r.1 opens l.6 r.6 in
       let kids = inside_same file q (n + 1) kid child l.2 r.2 l.3 r.3 (one_same Open l.1 r.1 l.2 r.2 words.1 l.9 r.9) l.10 r.10 in
-      let rest = rows_same file q n row other l.4 r.4 c d e f (one_same Close l.3 r.3 l.4 r.4 kids.1 l.11 r.11) l.12 lc r.12 rc in
-      (ap (λ (u : Word). record { value = u; tree = kid } ∷ items-the_row-Branch _ row) words.0 ∙ ap (λ (s : Shape). record { value = v; tree = s } ∷ items-the_row-Branch _ row) kids.0
-      ∙ ap (λ (bs : List Branch). record { value = v; tree = child } ∷ bs) rest.0, rest.1)
+      let rest = rows_same file q n row other l.4 r.4 c d e f (one_same Close l.3 r.3 l.4 r.4 kids.1 l.11 r.11) l.12 lc r.12 rc in (
+        ap (λ (u : Word). record { value = u; tree = kid } ∷ items-the_row-Branch _ row) words.0 ∙ ap (λ (s : Shape). record { value = v; tree = s } ∷ items-the_row-Branch _ row) kids.0
+            ∙ ap (λ (bs : List Branch). record { value = v; tree = child } ∷ bs) rest.0,
+        rest.1,
+      )
 
 tree_same : (file : List ℕ) (q : Quantity) (n : ℕ) (s v : Shape) (a b c d : List Token) → a ≡ b → IsTree file q n s a c → IsTree file q n v b d → (s ≡ v) × (c ≡ d)
 tree_same file q n s v a b c d same l r = inside_same file q n s v l.b r.b c d (one_same Open a b l.b r.b same l.opens r.opens) l.inside r.inside
@@ -149,7 +155,7 @@ each_same {X} Is Ends one apart (x ∷ xs) (y ∷ ys) a b c d same l lc r rd =
 values_same : (file : List ℕ) (c k : Counts) (vs ws : List Word) (a b d e : List Token) → a ≡ b → HasValues file c vs a d → HasValues file k ws b e → (vs ≡ ws) × (d ≡ e)
 values_same file c k vs ws a b d e same l r =
     let each = each_same (AValue file) (λ x. (y : List Token) × One Close x y) (λ w v x y z u is lw rw. words_same w v x y z u is lw.word rw.word) (λ w x y ends is. word_apart w x x y ends.0 refl is.word ends.1)
-            vs ws a b l.b r.b same l.each (d, l.close) r.each (e, r.close) in
+    vs ws a b l.b r.b same l.each (d, l.close) r.each (e, r.close) in
     (each.0, one_same Close l.b r.b d e each.1 l.close r.close)
 
 variable_same : (file : List ℕ) (c k : Counts) (v w : Variable) (a b d e : List Token) → a ≡ b → AVariable file c v a d → AVariable file k w b e → (v ≡ w) × (d ≡ e)
@@ -172,7 +178,7 @@ variables_same file c k m o (v ∷ vs) (w ∷ ws) a b d e f g same l lc r rc =
 trees_same : (file : List ℕ) (ss vs : List Shape) (a b c d : List Token) → a ≡ b → AreTrees file ss a c → AreTrees file vs b d → (ss ≡ vs) × (c ≡ d)
 trees_same file ss vs a b c d same l r =
     let each = each_same (IsTree file Reward 0) (λ x. (y : List Token) × One CloseSum x y) (tree_same file Reward 0) (λ s x y ends is. sums_apart x x is.b ends.0 refl is.opens ends.1)
-            ss vs a b l.b r.b same l.each (c, l.close) r.each (d, r.close) in
+    ss vs a b l.b r.b same l.each (c, l.close) r.each (d, r.close) in
     (each.0, one_same CloseSum l.b r.b c d each.1 l.close r.close)
 
 part_same : (file : List ℕ) (ss vs : List Shape) (a b c d : List Token) → a ≡ b → APart file ss a c → APart file vs b d → (ss ≡ vs) × (c ≡ d)
@@ -225,7 +231,7 @@ item_apart file (items.Cost w s) a b ends is =
 items_same : (file : List ℕ) (is js : List Item) (w v : Word) (a b c d : List Token) → a ≡ b → AreItems file is w a c → AreItems file js v b d → (is ≡ js) × (w ≡ v) × (c ≡ d)
 items_same file is js w v a b c d same l r =
     let each = each_same (AnItem file) (EndsAction file) (item_same file) (item_apart file) is js a b l.b r.b same
-            l.items (record { end = w; b = c; word = l.word; ends = l.ends }) r.items (record { end = v; b = d; word = r.word; ends = r.ends }) in
+    l.items (record { end = w; b = c; word = l.word; ends = l.ends }) r.items (record { end = v; b = d; word = r.word; ends = r.ends }) in
     let words = words_same w v l.b r.b c d each.1 l.word r.word in
     (each.0, words.0, words.1)
 
@@ -259,9 +265,11 @@ bodies_same file c k x y w v (sections.Reward word parts) (sections.Reward key o
     (ap (λ (u : Word). sections.Reward u parts) (l.1 ∙ words ∙ sym r.1) ∙ ap (λ (z : List Shape). sections.Reward key z) all.0, all.1)
 bodies_same file c k x y w v (sections.Setting word q units) (sections.Setting key p others) a b d e kinds words same l r =
     let quantities : q ≡ p = cc in
-    let numbers = words_same l.0 r.0 a b d e same l.3 r.3 in
-    (ap (λ (u : Word). sections.Setting u q units) (l.2 ∙ words ∙ sym r.2) ∙ ap (λ (o : Quantity). sections.Setting key o units) quantities
-    ∙ ap (λ (z : ℤ). sections.Setting key p z) (units_same file q p l.0 r.0 units others quantities numbers.0 l.4 r.4), numbers.1)
+    let numbers = words_same l.0 r.0 a b d e same l.3 r.3 in (
+      ap (λ (u : Word). sections.Setting u q units) (l.2 ∙ words ∙ sym r.2) ∙ ap (λ (o : Quantity). sections.Setting key o units) quantities
+          ∙ ap (λ (z : ℤ). sections.Setting key p z) (units_same file q p l.0 r.0 units others quantities numbers.0 l.4 r.4),
+      numbers.1,
+    )
 bodies_same file c k x y w v s t a b d e kinds words same l r = absurd (cc)
 
 section_same : (file : List ℕ) (c k : Counts) (s t : Section) (a b d e : List Token) → a ≡ b → ASection file c s a d → ASection file k t b e → (s ≡ t) × (d ≡ e)

@@ -19,3 +19,6 @@ pub use refusal::{Refusal, Want, What};
 pub use sections::{ItemWord, SectionWord};
 pub use syntax::read_syntax;
 pub use unread::Unread;
+
+#[cfg(test)]
+mod tests;

@@ -186,7 +186,7 @@ tree-returns-then-n-ge300-clause-err t c =
     let file = c.args.self.now.file.now in
     let one = c.in_ok-rest.ensures.ok in
     let place : (get_or c.args.tokens.now 0 (record { kind = Open; from = 0; to = 0 })).from ≡ one.token.from =
-        ap (λ (ts : List Token). (get_or {A = Token} ts 0 (record { kind = Open; from = 0; to = 0 })).from) one.first in
+    ap (λ (ts : List Token). (get_or {A = Token} ts 0 (record { kind = Open; from = 0; to = 0 })).from) one.first in
     subst (λ (at : ℕ). Faults file (tree c.args.quantity c.args.n ∷ []) c.args.tokens.now (TooMany at Nesting)) (sym place)
     (too_deep file c.args.quantity c.args.n c.args.tokens.now c.in_ok-rest.rest.now (omega arith) one)
 

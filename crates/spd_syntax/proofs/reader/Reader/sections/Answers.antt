@@ -42,6 +42,8 @@ returns-then-not-has_all-clause-err c =
 pub returns-clause-ok : goal.returns-clause-ok
 returns-clause-ok c =
     let file = c.args.self.now.file.now in
-    let none : length c.loop-rest.rest.now ≡ 0 = grind (arith, c.is_empty.ensures, c.loop-rest-test.false) in
-    (c.loop-rest.seen, subst (λ (l : List Token). AreSections file c.args.counts c.loop-rest.sections c.loop-rest.seen c.args.tokens.now l) (none_left c.loop-rest.rest.now none) c.loop-rest.invariant.read,
-    sym c.has_all.ensures ∙ c.if-not-has_all.false)
+    let none : length c.loop-rest.rest.now ≡ 0 = grind (arith, c.is_empty.ensures, c.loop-rest-test.false) in (
+      c.loop-rest.seen,
+      subst (λ (l : List Token). AreSections file c.args.counts c.loop-rest.sections c.loop-rest.seen c.args.tokens.now l) (none_left c.loop-rest.rest.now none) c.loop-rest.invariant.read,
+      sym c.has_all.ensures ∙ c.if-not-has_all.false,
+    )
