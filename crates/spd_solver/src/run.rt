@@ -40,6 +40,15 @@ fn finished(solution: &Solution) -> Status
     }
 }
 
+/// How a command ended, whether it was finished or not.
+fn ended(outcome: Result<Status, Status>) -> Status
+    ensures { result ≡ ending outcome }
+{
+    match outcome {
+        Ok(status) | Err(status) => status,
+    }
+}
+
 /// Solves the model in the file of this name, and writes the text of its result. Both ways to solve it come to the same.
 fn solve<P: Place, K: Sink>(
     alloc: Global,
@@ -116,10 +125,7 @@ pub fn solve_run<P: Place, K: Sink>(
     ensures named { K.name out.new ≡ K.name out.old }
 {
     match read_job(words) {
-        Ok(Job { file, options }) => match solve(alloc, file, &options, place, out) {
-            Ok(status) => status,
-            Err(status) => status,
-        },
+        Ok(Job { file, options }) => ended(solve(alloc, file, &options, place, out)),
         Err(word) => Status::Usage { word },
     }
 }
