@@ -1,5 +1,5 @@
 -- What the stages of a command come to, for the command as a whole.
-use Rattle.std.proofs.Common.{◌≡◌, ◌↔◌, ℕ, ◌<◌, ◌≤◌, List, length, ℤ, Option, Some, None, IfSome, refl, sym, ap, subst, ◌∙◌}
+use Rattle.std.proofs.Common.{◌≡◌, ◌↔◌, ℕ, ◌<◌, ◌≤◌, List, length, ℤ, Option, Some, None, IfSome, Result, refl, sym, ap, subst, ◌∙◌}
 use Rattle.std.proofs.lemmas.Option.{same_Some, none-some}
 use Rattle.sha2.specs.Sha256.{sha256}
 use Rattle.spd_edge.specs.Told.{Took, TookFront}
@@ -24,7 +24,7 @@ use Rattle.spd_solver.specs.Command.{Way, Command, solving, AskFor, OnCommand, I
 use Rattle.spd_solver.specs.Kind.{Kind, whole, refusal, kind_of}
 use Rattle.spd_solver.specs.Run.{Ends, Refuses, HoldsRefused, HoldsAccepted, Seen, ReadsCalmly, IsUnwritten, Means, Completes, TellsRefusal}
 use Rattle.spd_solver.specs.Solve.{residual, file_limit, IsFileOf, TellsStop, RefusesFile}
-use Rattle.spd_solver.specs.inner.Stages.{IsSolution, IsUnsolved, FailsToRead, Asks, Answers, finished_status, unreadable_status, unread_status, unsolved_status}
+use Rattle.spd_solver.specs.inner.Stages.{IsSolution, IsUnsolved, FailsToRead, Asks, Answers, ending, finished_status, unreadable_status, unread_status, unsolved_status}
 use Rattle.spd_solver.proofs.Causes.{file_once, file_right}
 
 -- what is said of the bytes that were read is said of those that the place holds
@@ -155,11 +155,13 @@ module _ (way : Way) (file : List ℕ) (options : Options) (before now : Seen) w
 
 -- ---- for the words that were given
 
-module _ (words : List (List ℕ)) (file : List ℕ) (options : Options) (status : Status) (before now : Seen) (asks : Asks words file options)
-    (answers : (way : Way) → Answers (solving way file options) status before now) where
+module _ (words : List (List ℕ)) (file : List ℕ) (options : Options) (outcome : Result Status Status) (status : Status) (before now : Seen)
+    (is : status ≡ ending outcome) (asks : Asks words file options) (answers : (way : Way) → Answers (solving way file options) (ending outcome) before now) where
   -- what is answered to the command that the words ask for
   answered : (command : Command) → AskFor words command → Answers command status before now
-  answered command asked = subst (λ (other : Command). Answers other status before now) (sym (asks.once command asked)) (answers asks.way)
+  answered command asked =
+      subst (λ (other : Command). Answers other status before now) (sym (asks.once command asked))
+      (subst (λ (s : Status). Answers (solving asks.way file options) s before now) (sym is) (answers asks.way))
 
   pub means : OnCommand words (λ command. Means (kind_of status) command status before now)
   means command asked = (answered command asked).means
@@ -172,13 +174,13 @@ module _ (words : List (List ℕ)) (file : List ℕ) (options : Options) (status
 
   pub headline : OnCommand words
       (λ command. kind_of status ≡ whole → (text : List ℕ) × Ends command before.inputs.holds status text × Took before.taken text now.taken)
-  headline command asked is =
-      let finished = subst (λ (kind : Kind). Means kind command status before now) is (means command asked) in
+  headline command asked whole_is =
+      let finished = subst (λ (kind : Kind). Means kind command status before now) whole_is (means command asked) in
       (finished.0, finished.1, finished.2)
 
   -- a command that was run doesn't end for its words
   pub runs : (word : ℕ) → (status ≡ S.Usage word) ↔ IsUsage words word
   runs word = (
-    λ is. absurd (subst (λ (s : Status). Means (kind_of s) (solving asks.way file options) s before now) is (answers asks.way).means),
+    λ wrong. absurd (subst (λ (s : Status). Means (kind_of s) (solving asks.way file options) s before now) wrong (means (solving asks.way file options) asks.asked)),
     λ wrong. absurd (asks.right word wrong),
   )
