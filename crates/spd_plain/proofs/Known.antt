@@ -19,12 +19,12 @@ use Rattle.spd_plain.specs.declared.space.Axis.{Axis}
 use Rattle.spd_plain.specs.declared.reach.Reach.{Reach}
 use Rattle.spd_plain.specs.declared.reach.Reach.TheVariants.{Own, Later}
 use Rattle.spd_plain.specs.declared.chances.Chances.{Chances}
-use Rattle.spd_plain.specs.declared.chances.Chances.TheVariants.{Kept, Read}
+use Rattle.spd_plain.specs.declared.chances.Chances.TheVariants.{Kept, Steady, Read}
 use Rattle.spd_plain.specs.Space.{state_limit}
 use Rattle.spd_plain.specs.inner.Axes.{axis_of, axes_of, IsAxis}
 use Rattle.spd_plain.specs.inner.Reach.{latest, reach_at, reaches_after}
-use Rattle.spd_plain.specs.inner.Chances.{chance_of, values_of, IsKept}
-use Rattle.spd_plain.specs.inner.Outlooks.{known_of}
+use Rattle.spd_plain.specs.inner.Chances.{chance_of, values_of, HoldFor, IsKnown}
+use Rattle.spd_plain.specs.inner.Outlooks.{keeps, known_of}
 use Rattle.spd_plain.proofs.Tables.{few_from}
 use Rattle.spd_plain.proofs.TableValues.{value-own}
 
@@ -68,19 +68,26 @@ module _ (m : Process) (law : IsLawful m) (a : Action) (offered : Contains m.act
       ∙ value-own m i (get_or a.tables i (Leaf (pos 0))) (action.tables i (Leaf (pos 0)) near).table s (omega (arith, length-IsState (sizes m) s state, length-sizes m)) (own_latest own) v first rest
       ∙ sym (read (v ∷ rest))
 
-  -- what is kept of a variable's probabilities holds
-  pub known_kept : (s : List ℕ) → IsState (sizes m) s → IsKept m a s i (known_of m a s i)
-  known_kept s state = by_reach (reach_at m a i) refl
+  -- what is known of a variable's probabilities holds
+  pub known_holds : (s : List ℕ) → IsState (sizes m) s → IsKnown m a s i (known_of m a s i)
+  known_holds s state = by_reach (reach_at m a i) refl
     where
-      by_reach : (r : Reach) → reach_at m a i ≡ r → IsKept m a s i (elim r [ Own ↦ Kept (values_of m a s i) | Later ↦ Read ])
-      by_reach Own own =
-          let f : ℕ → ℤ = λ v. chance_of m a s i (v ∷ get_or (states (sizes_after m i)) 0 []) in (
-            length-below f (slice_index (sizes m) i) (values_of m a s i) refl,
-            λ v rest below later.
+      held : reach_at m a i ≡ Own → HoldFor m a s i (values_of m a s i)
+      held own =
+          let f : ℕ → ℤ = λ v. chance_of m a s i (v ∷ get_or (states (sizes_after m i)) 0 []) in record {
+            count = length-below f (slice_index (sizes m) i) (values_of m a s i) refl;
+            each = λ v rest below later.
                 get_or-map f (numbers_below (slice_index (sizes m) i)) v 0 (pos 0) (omega (arith, length-numbers_below (slice_index (sizes m) i)))
                 ∙ ap f (get_or-numbers_below (slice_index (sizes m) i) v below)
-                ∙ own_same own s state v (get_or (states (sizes_after m i)) 0 []) rest,
-          )
+                ∙ own_same own s state v (get_or (states (sizes_after m i)) 0 []) rest;
+          }
+
+      by_choice : (kept : Bool) → HoldFor m a s i (values_of m a s i) → IsKnown m a s i (if kept then Kept (values_of m a s i) else Steady)
+      by_choice true held = held
+      by_choice false held = held
+
+      by_reach : (r : Reach) → reach_at m a i ≡ r → IsKnown m a s i (elim r [ Own ↦ if keeps m then Kept (values_of m a s i) else Steady | Later ↦ Read ])
+      by_reach Own own = by_choice (keeps m) (held own)
       by_reach Later later = tt
 
 -- the axis that stands at k, and what is kept of its variable's probabilities
@@ -98,10 +105,10 @@ module _ (m : Process) (law : IsLawful m) (few : state_count (sizes m) ≤ state
   is_axis = axis_read m law few k (get_or axes k d) near_var axis_is
 
   pub known_at : (a : Action) → Contains m.actions a → (s : List ℕ) → IsState (sizes m) s → (known : List Chances) (x : Chances) → known ≡ map (known_of m a s) (numbers_below (length m.vars))
-      → x ≡ get_or known k x → IsKept m a s (get_or axes k d).var x
+      → x ≡ get_or known k x → IsKnown m a s (get_or axes k d).var x
   known_at a offered s state known x knows is =
       let x_is = entry_below (known_of m a s) (length m.vars) k x known knows near_var is in
-      subst (λ (j : ℕ). IsKept m a s j x) (sym var_is) (subst (IsKept m a s k) (sym x_is) (known_kept m law a offered k near_var s state))
+      subst (λ (j : ℕ). IsKnown m a s j x) (sym var_is) (subst (IsKnown m a s k) (sym x_is) (known_holds m law a offered k near_var s state))
 
   -- the reach of that variable's table
   pub reach_read : (a : Action) (reaches : List Reach) → reaches ≡ reaches_after m a → get_or reaches k Own ≡ reach_at m a (get_or axes k d).var

@@ -14,7 +14,6 @@ pub mod SweepLaws
 pub mod Runs
 pub mod Shapes
 pub mod Told
-pub mod OneState
 mod LimitRows
 pub mod BitTests
 pub mod Products

@@ -4,7 +4,7 @@ ghost use Rattle.std.specs.Prelude.{◌≡◌, ◌<◌, length, map, IfOk, Conta
 ghost use Rattle.spd_model.specs.States.{sizes, IsState};
 ghost use Rattle.spd_plain.specs.inner.Axes.{IsAxis, IsSpace};
 ghost use Rattle.spd_plain.specs.inner.Reach.{reach_at, reaches_after, reaches_of};
-ghost use Rattle.spd_plain.specs.inner.Outlooks.{known_of, outlook_of, outlooks_at as outlooks_at_of, outlooks_of};
+ghost use Rattle.spd_plain.specs.inner.Outlooks.{keeps, known_of, outlook_of, outlooks_at as outlooks_at_of, outlooks_of};
 
 use crate::chances::{Chances, kept_chances};
 use crate::reach::Reach;
@@ -21,6 +21,21 @@ pub struct Outlook {
     pub reward: i128,
     /// The probabilities of each variable's next values, in the order of the variables.
     pub chances: Items<Chances>,
+}
+
+/// The greatest number of pairs of an action and a state whose probabilities are kept: so what is kept has at most four entries for each
+/// value of each variable of 4,096 states.
+const KEPT_LIMIT: usize = 16_384;
+
+/// Whether the probabilities that can be kept are kept for all turns. Those of a model with more pairs of an action and a state are
+/// read anew in each turn.
+fn are_kept(model: &Model, space: &Space) -> bool
+    requires { IsSpace model.now space.now }
+    ensures { result ≡ keeps model.now }
+{
+    let actions = model.actions.as_slice();
+    let states = space.states.as_slice();
+    actions.len() * states.len() <= KEPT_LIMIT
 }
 
 /// What is kept of a variable's probabilities after `action` at `s`.
@@ -41,7 +56,10 @@ fn known_chances(
     ensures { IfOk result (λ known. known ≡ known_of model.now action.now s.now axis.now.var) }
 {
     match reach {
-        Reach::Own => Ok(Chances::Kept(kept_chances(alloc, model, action, s, axis, space)?)),
+        Reach::Own if are_kept(model, space) => {
+            Ok(Chances::Kept(kept_chances(alloc, model, action, s, axis, space)?))
+        }
+        Reach::Own => Ok(Chances::Steady),
         Reach::Later => Ok(Chances::Read),
     }
 }

@@ -1,5 +1,5 @@
 -- The model that a file means, and all faults of its names.
-use Rattle.std.specs.Prelude.{ℕ, ◌+◌, Bool, true, false, if◌then◌else◌, List, [], ◌∷◌, ◌++◌, length, map, flat_map, Option, Some, None, is_some, unwrap_or, ℤ, pos, unsigned_abs}
+use Rattle.std.specs.Prelude.{ℕ, Bool, true, false, if◌then◌else◌, List, [], ◌∷◌, ◌++◌, length, map, flat_map, Option, Some, None, is_some, is_none, unwrap_or, position, ℤ, pos, unsigned_abs}
 use Rattle.std.specs.Option.{option_map}
 use Rattle.spd_model.specs.declared.tree.Tree.{Tree}
 use Rattle.spd_model.specs.declared.process.Var.{Var}
@@ -63,37 +63,36 @@ amounts_faults file s trees = flat_map (tree_faults file s Reward 300) trees
 
 -- ---- actions: a table for each variable, and at most one cost
 
-pub record Items : Type 0 where
+pub record Filled : Type 0 where
   pub tables : List (Option Tree)
   pub cost : Option (List Tree)
 
-abbrev pub no_items : Scope → Items
+abbrev pub no_items : Scope → Filled
 no_items s = record { tables = no_trees (length s.vars); cost = None }
 
-abbrev pub with_item : List ℕ → Scope → Items → Item → Items
+abbrev pub with_item : List ℕ → Scope → Filled → Item → Filled
 with_item file s t (items.Table w tree) = record t { tables = put t.tables (var_number s (text_of file w)) (meaning file s tree) }
 with_item file s t (items.Cost w trees) = record t { cost = Some (amounts_of file s trees) }
 
 -- the variable of a table is declared and has no other table; a second cost is Twice at its word
-abbrev pub item_faults : List ℕ → Scope → Items → Item → List Refusal
+abbrev pub item_faults : List ℕ → Scope → Filled → Item → List Refusal
 item_faults file s t (items.Table w tree) =
     let var = var_number s (text_of file w) in
     place_faults t.tables w.from var ++ tree_faults file s (Table (unwrap_or var 0)) 300 tree
 item_faults file s t (items.Cost w trees) = when (is_some t.cost) (Twice w.from) ++ amounts_faults file s trees
 
-abbrev pub items_of : List ℕ → Scope → Items → List Item → Items
+abbrev pub items_of : List ℕ → Scope → Filled → List Item → Filled
 items_of file s t [] = t
 items_of file s t (item ∷ rest) = items_of file s (with_item file s t item) rest
 
-abbrev pub items_faults : List ℕ → Scope → Items → List Item → List Refusal
+abbrev pub items_faults : List ℕ → Scope → Filled → List Item → List Refusal
 items_faults file s t [] = []
 items_faults file s t (item ∷ rest) = item_faults file s t item ++ items_faults file s (with_item file s t item) rest
 
--- the first variable without a table, counted from v
-abbrev pub missing_faults : ℕ → ℕ → List (Option Tree) → List Refusal
-missing_faults at v [] = []
-missing_faults at v (None ∷ places) = MissingVariable at v ∷ []
-missing_faults at v (Some tree ∷ places) = missing_faults at (v + 1) places
+-- the first variable without a table, where there is one
+abbrev pub missing_faults : ℕ → Option ℕ → List Refusal
+missing_faults at None = []
+missing_faults at (Some v) = MissingVariable at v ∷ []
 
 abbrev pub action_of : List ℕ → Scope → Word → List Item → Action
 action_of file s name its =
@@ -102,7 +101,7 @@ action_of file s name its =
 
 abbrev pub action_faults : List ℕ → Scope → List Item → Word → List Refusal
 action_faults file s its end =
-    items_faults file s (no_items s) its ++ missing_faults end.from 0 (items_of file s (no_items s) its).tables
+    items_faults file s (no_items s) its ++ missing_faults end.from (position is_none (items_of file s (no_items s) its).tables)
 
 abbrev pub action_names : List Action → List (List ℕ)
 action_names actions = map (λ (a : Action). a.name) actions

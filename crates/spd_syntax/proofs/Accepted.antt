@@ -24,15 +24,14 @@ use Rattle.spd_syntax.specs.declared.sections.ItemWord.{ItemWord}
 use Rattle.spd_syntax.specs.declared.sections.ItemWord.TheVariants.{EndAction, Cost, LeftOut as LeftOutItem, Other as ATable}
 use Rattle.spd_syntax.specs.declared.refusal.Refusal.{Refusal}
 use Rattle.spd_syntax.specs.declared.refusal.Refusal.TheVariants.{Expected, TooMany, LeftOut}
-use Rattle.spd_syntax.specs.declared.refusal.Want.{Want}
 use Rattle.spd_syntax.specs.declared.refusal.Want.TheVariants as wants
 use Rattle.spd_syntax.specs.declared.refusal.What.{What}
 use Rattle.spd_syntax.specs.declared.refusal.What.TheVariants as whats
 use Rattle.spd_syntax.specs.Numbers.{number_of}
 use Rattle.spd_syntax.specs.Words.{text_of, name_passes, value_passes, is_number_word, is_primed, front_of, unmarked}
-use Rattle.spd_syntax.specs.Positions.{Position, Step, file_begins, variables_word, first_variable, variable_name, first_value, more_values, more_variables, section, no_section, dd_name, dd_end, action_name, item, part, plus_sign, plus_step, more_parts, tree, inside, after_number, after_primed, branch_value, branch_end, more_branches, number, takes, fault_step, fault_from, end_fault, counted, ◌then◌, none_yet, one_variable, one_test, one_dd, one_action, with_reward, after_setting, section_word, section_step, item_word, item_step, inside_step, has_all, syntax_fault}
-use Rattle.spd_syntax.specs.Grammar.{One, AWord, IsName, IsValue, IsNumber, IsTree, IsInside, IsBranch, HaveBranches}
-use Rattle.spd_syntax.specs.Files.{Each, Key, AName, AValue, HasValues, AVariable, AreVariables, after_variable, AreTrees, IsSum, APart, a_tree, a_sum, AnItem, AreItems, IsBody, ASection, AreSections, after_section, IsFile, IsWritten}
+use Rattle.spd_syntax.specs.Positions.{Position, Step, file_begins, variables_word, first_variable, variable_name, first_value, more_values, more_variables, section, no_section, dd_name, dd_end, action_name, item, part, plus_sign, plus_step, more_parts, tree, inside, after_number, after_primed, branch_value, branch_end, more_branches, number, takes, fault_step, fault_from, end_fault, counted, ◌then◌, none_yet, one_variable, one_test, one_dd, one_action, with_reward, after_setting, section_word, section_step, item_word, item_step, inside_step, has_all}
+use Rattle.spd_syntax.specs.Grammar.{One, AWord, IsNumber, IsTree, IsInside, IsBranch, HaveBranches}
+use Rattle.spd_syntax.specs.Files.{Each, Key, AName, AValue, HasValues, AVariable, AreVariables, after_variable, IsSum, APart, a_tree, a_sum, AreItems, ASection, AreSections, after_section, IsFile, IsWritten}
 use Rattle.spd_syntax.specs.Reading.{fault_after, first_fault}
 use Rattle.spd_syntax.proofs.TreeMoves.{is_choice}
 use Rattle.spd_syntax.proofs.FileMoves.{with_tests, value_wanted}

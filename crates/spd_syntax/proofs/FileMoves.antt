@@ -1,5 +1,5 @@
 -- What tokens do at the positions of variables and sections.
-use Rattle.std.proofs.Common.{◌≡◌, ℕ, zero, suc, ◌+◌, ◌-◌, ◌<◌, ◌≤◌, Bool, true, false, cond, ◌||◌, List, [], ◌∷◌, ◌++◌, length, Option, Some, None, Ok, Err, Result, refl, sym, ap, subst, ◌∙◌, arith, ltb, leb, get_or}
+use Rattle.std.proofs.Common.{◌≡◌, ℕ, suc, ◌+◌, ◌-◌, ◌<◌, ◌≤◌, Bool, true, false, cond, ◌||◌, List, [], ◌∷◌, ◌++◌, length, Option, Some, None, Ok, Err, Result, refl, sym, ap, subst, ◌∙◌, arith}
 use Rattle.std.specs.Prelude.{nat_lt, ℤ, codes, bytes_eq}
 use Rattle.std.proofs.lemmas.Bool.Decides.{nat_tests}
 use Rattle.spd_lex.specs.declared.token.Token.{Token}
@@ -28,15 +28,14 @@ use Rattle.spd_syntax.specs.declared.refusal.Want.TheVariants as wants
 use Rattle.spd_syntax.specs.declared.refusal.What.{What}
 use Rattle.spd_syntax.specs.declared.refusal.What.TheVariants as whats
 use Rattle.spd_syntax.specs.declared.unread.Unread.{Unread}
-use Rattle.spd_syntax.specs.declared.unread.Unread.TheVariants.{Refused, Memory}
 use Rattle.spd_syntax.specs.Numbers.{number_of}
-use Rattle.spd_syntax.specs.Words.{text_of, passes, name_passes, value_passes, begins, begins_value}
-use Rattle.spd_syntax.specs.Positions.{Position, file_begins, variables_word, first_variable, variable_name, first_value, more_values, more_variables, section, no_section, dd_name, dd_end, action_name, item, part, plus_sign, plus_step, more_parts, tree, inside, number, takes, fault_step, fault_from, end_fault, counted, ◌then◌, none_yet, one_variable, one_test, one_dd, one_action, with_reward, after_setting, section_word, section_step, item_word, item_step, has_all}
-use Rattle.spd_syntax.specs.Grammar.{One, AWord, Says, IsName, IsValue, IsNumber, IsTree, IsInside}
-use Rattle.spd_syntax.specs.Files.{Each, Key, AName, AValue, HasValues, AVariable, AreVariables, after_variable, AreTrees, IsSum, APart, a_tree, a_sum, AnItem, AreItems, IsBody, ASection, AreSections, after_section, IsFile, IsWritten}
+use Rattle.spd_syntax.specs.Words.{text_of, name_passes, value_passes}
+use Rattle.spd_syntax.specs.Positions.{Position, file_begins, variables_word, first_variable, variable_name, first_value, more_values, more_variables, section, no_section, dd_name, dd_end, action_name, item, part, plus_sign, plus_step, more_parts, tree, inside, number, takes, fault_step, fault_from, counted, ◌then◌, none_yet, one_variable, one_test, one_dd, one_action, with_reward, after_setting, section_word, section_step, item_word, item_step, has_all}
+use Rattle.spd_syntax.specs.Grammar.{One, AWord, IsValue, IsNumber, IsTree}
+use Rattle.spd_syntax.specs.Files.{Each, Key, AName, AValue, HasValues, AVariable, AreVariables, after_variable, AreTrees, APart, a_tree, a_sum, AnItem, AreItems, IsBody, ASection, AreSections, after_section, IsFile, IsWritten}
 use Rattle.spd_syntax.specs.Reading.{Faults, Fails, here, Lacks, Misses, NamesAt, value_judged, body_positions, fault_after, first_fault}
-use Rattle.spd_syntax.proofs.Moves.{Moves, stay, then_moves, moves_more, fails_more, faults_more, faults_after, fails_after, goes, goes_at, goes_word, stops_word, Only, misses, then_ok, then_err}
-use Rattle.spd_syntax.proofs.TreeMoves.{tree_moves, opens, inside_moves}
+use Rattle.spd_syntax.proofs.Moves.{Moves, stay, then_moves, moves_more, fails_more, faults_after, fails_after, goes, goes_at, goes_word, stops_word, Only, misses, then_ok, then_err}
+use Rattle.spd_syntax.proofs.TreeMoves.{tree_moves, inside_moves}
 
 under : {A : Type 0} (what : What) (most n at : ℕ) (next : Result A Refusal) → n < most → counted what most n at next ≡ next
 under what most n at next h = let t : nat_lt n most ≡ true = grind (arith, nat_tests) in rw t refl
@@ -665,10 +664,6 @@ reward_else RewardWord a b d l o = refl
 reward_else (Setting q) a b d l o = absurd (d q refl)
 reward_else LeftOutSection a b d l o = absurd (l refl)
 reward_else NoSection a b d l o = absurd (o refl)
-
-pub none_left : (ts : List Token) → length ts ≡ 0 → ts ≡ []
-none_left [] e = refl
-none_left (t ∷ ts) e = absurd (omega arith)
 
 -- the file ends before each section that must stand was read
 pub sections_lack : (file : List ℕ) (c k : Counts) (ss : List Section) (a e : List Token) (f : Refusal) → AreSections file c ss k a e → e ≡ [] → has_all k ≡ false → f ≡ Expected (here file e) wants.Section → Faults file (section c ∷ []) a f

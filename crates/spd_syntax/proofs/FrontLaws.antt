@@ -3,7 +3,7 @@ use Rattle.std.proofs.Common.{◌≡◌, ℕ, List, [], ◌∷◌, ◌++◌, Opt
 use Rattle.spd_lex.specs.declared.token.Token.{Token}
 use Rattle.spd_syntax.specs.declared.refusal.Refusal.{Refusal}
 use Rattle.spd_syntax.specs.Words.{text_of}
-use Rattle.spd_syntax.specs.Positions.{Position, Step, takes, fault_step, fault_from, end_fault}
+use Rattle.spd_syntax.specs.Positions.{Position, Step, takes, fault_step, fault_from}
 use Rattle.spd_syntax.specs.Fronts.{next_step, behind_front}
 
 no_position : (file : List ℕ) (ts : List Token) → fault_from file [] ts ≡ None

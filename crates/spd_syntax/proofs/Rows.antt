@@ -1,5 +1,5 @@
 -- The first faults of some files, computed.
-use Rattle.std.proofs.Common.{◌≡◌, ℕ, zero, suc, List, [], ◌∷◌, ◌++◌, Option, Some, None, Ok, Err, refl}
+use Rattle.std.proofs.Common.{◌≡◌, ℕ, zero, suc, List, [], ◌∷◌, ◌++◌, Option, Some, None, Ok, refl}
 use Rattle.std.specs.Prelude.{codes}
 use Rattle.spd_scaled.specs.DecimalReading.{decimal_of, sign_at, digits_at, fraction_at, exponent_at, without_end_zeros, lowest_of, scaled_of}
 use Rattle.spd_lex.specs.Tokens.{blanked, with_word, tokens_from, bad_from, tokens_of}

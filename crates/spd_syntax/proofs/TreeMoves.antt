@@ -1,9 +1,9 @@
 -- What tokens do at the positions of a tree.
-use Rattle.std.proofs.Common.{◌≡◌, ℕ, ◌+◌, ◌<◌, ◌≤◌, Bool, true, false, cond, List, [], ◌∷◌, ◌++◌, length, Option, Some, None, Ok, Err, Result, refl, sym, ap, subst, ◌∙◌, arith}
+use Rattle.std.proofs.Common.{◌≡◌, ℕ, ◌+◌, ◌<◌, ◌≤◌, Bool, true, false, cond, List, [], ◌∷◌, ◌++◌, length, Some, Ok, Err, refl, sym, ap, subst, ◌∙◌, arith}
 use Rattle.std.specs.Prelude.{nat_lt, ℤ}
 use Rattle.spd_lex.specs.declared.token.Token.{Token}
 use Rattle.spd_lex.specs.declared.token.Kind.{Kind}
-use Rattle.spd_lex.specs.declared.token.Kind.TheVariants.{Open, Close, OpenSum, CloseSum, Word as WordKind}
+use Rattle.spd_lex.specs.declared.token.Kind.TheVariants.{Open, Close, Word as WordKind}
 use Rattle.spd_syntax.specs.declared.file.Word.{Word}
 use Rattle.spd_syntax.specs.declared.file.Quantity.{Quantity}
 use Rattle.spd_syntax.specs.declared.file.Branch.{Branch}
@@ -11,15 +11,13 @@ use Rattle.spd_syntax.specs.declared.file.Shape.{Shape, Number, Use, Choice, Cho
 use Rattle.spd_syntax.specs.declared.file.Shape.TheBlock.{hidden-the_row-Branch-0}
 use Rattle.spd_syntax.specs.declared.refusal.Refusal.{Refusal}
 use Rattle.spd_syntax.specs.declared.refusal.Refusal.TheVariants.{Expected, TooMany}
-use Rattle.spd_syntax.specs.declared.refusal.Want.{Want}
 use Rattle.spd_syntax.specs.declared.refusal.Want.TheVariants as wants
 use Rattle.spd_syntax.specs.declared.refusal.What.TheVariants as whats
 use Rattle.spd_syntax.specs.declared.unread.Unread.{Unread}
-use Rattle.spd_syntax.specs.declared.unread.Unread.TheVariants.{Refused, Memory}
 use Rattle.spd_syntax.specs.Numbers.{number_of}
 use Rattle.spd_syntax.specs.Words.{text_of, name_passes, value_passes, is_number_word, is_primed, front_of, unmarked}
-use Rattle.spd_syntax.specs.Positions.{Position, tree, inside, after_number, after_primed, branch_value, branch_end, more_branches, takes, fault_step, fault_from, end_fault, ◌then◌, inside_step}
-use Rattle.spd_syntax.specs.Grammar.{One, AWord, IsValue, IsNumber, IsHead, IsTree, IsInside, IsSome, AreBranches, IsBranch, HaveBranches}
+use Rattle.spd_syntax.specs.Positions.{tree, inside, after_number, after_primed, branch_value, branch_end, more_branches, takes, fault_step, fault_from, ◌then◌, inside_step}
+use Rattle.spd_syntax.specs.Grammar.{One, AWord, IsValue, IsHead, IsTree, IsInside, IsSome, AreBranches, IsBranch, HaveBranches}
 use Rattle.spd_syntax.specs.Reading.{Faults, Fails, here, Lacks, Misses, behind_head}
 use Rattle.spd_syntax.proofs.Moves.{Moves, stay, then_moves, moves_more, fails_more, faults_more, faults_after, fails_after, goes, goes_word, stops_word, stops_one, Only, misses, then_ok, then_err}
 

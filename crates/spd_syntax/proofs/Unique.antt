@@ -1,6 +1,6 @@
 -- A file is written in at most one way.
-use Rattle.std.proofs.Common.{◌≡◌, ℕ, ◌+◌, ◌<◌, Bool, true, false, List, [], ◌∷◌, length, Option, Some, None, Ok, Err, Result, refl, sym, ap, subst, ◌∙◌, arith}
-use Rattle.std.specs.Prelude.{ℤ, codes}
+use Rattle.std.proofs.Common.{◌≡◌, ℕ, ◌+◌, Bool, true, false, List, [], ◌∷◌, Ok, Result, refl, sym, ap, subst, ◌∙◌}
+use Rattle.std.specs.Prelude.{ℤ}
 use Rattle.std.proofs.lemmas.Bool.{false≢true}
 use Rattle.spd_lex.specs.declared.token.Token.{Token}
 use Rattle.spd_lex.specs.declared.token.Kind.{Kind}
@@ -22,14 +22,13 @@ use Rattle.spd_syntax.specs.declared.file.Section.TheVariants as sections
 use Rattle.spd_syntax.specs.declared.file.File.{File}
 use Rattle.spd_syntax.specs.declared.sections.SectionWord.{SectionWord}
 use Rattle.spd_syntax.specs.declared.sections.SectionWord.TheVariants.{Dd, Action, Reward as RewardWord, Setting}
-use Rattle.spd_syntax.specs.declared.sections.ItemWord.{ItemWord}
 use Rattle.spd_syntax.specs.declared.sections.ItemWord.TheVariants.{EndAction, Cost, Other as ATable}
 use Rattle.spd_syntax.specs.declared.refusal.Refusal.{Refusal}
 use Rattle.spd_syntax.specs.Numbers.{number_of}
 use Rattle.spd_syntax.specs.Words.{text_of, is_number_word, is_primed, unmarked}
 use Rattle.spd_syntax.specs.Positions.{none_yet, section_word, item_word}
-use Rattle.spd_syntax.specs.Grammar.{One, AWord, IsNumber, IsSome, IsTree, IsInside, AreBranches}
-use Rattle.spd_syntax.specs.Files.{Each, Key, AName, AValue, HasValues, AVariable, AreVariables, after_variable, AreTrees, IsSum, APart, a_tree, a_sum, AnItem, AreItems, IsBody, ASection, AreSections, after_section, IsFile, IsWritten}
+use Rattle.spd_syntax.specs.Grammar.{One, AWord, IsNumber, IsTree, IsInside, AreBranches}
+use Rattle.spd_syntax.specs.Files.{Each, AValue, HasValues, AVariable, AreVariables, after_variable, AreTrees, APart, a_tree, a_sum, AnItem, AreItems, IsBody, ASection, AreSections, after_section, IsFile, IsWritten}
 use Rattle.spd_syntax.proofs.TreeMoves.{first_opens}
 
 -- ---- single tokens

@@ -1,5 +1,5 @@
 -- The grammar of the command's words: which command they are, or the first word that can't stand.
-use Rattle.std.specs.Prelude.{ℕ, ◌≡◌, ◌≤◌, ◌⊎◌, List, [], ◌∷◌, drop, length, slice_index, Option, Some, None, unwrap_or, IfSome}
+use Rattle.std.specs.Prelude.{ℕ, ◌≡◌, ◌≤◌, ◌⊎◌, List, [], ◌∷◌, drop, slice_index, Some, None, unwrap_or, IfSome}
 use Rattle.spd_words.specs.declared.verb.Verb.{Verb}
 use Rattle.spd_words.specs.declared.verb.Verb.TheVariants as verbs
 use Rattle.spd_words.specs.declared.given.Given.{Given}
@@ -65,7 +65,7 @@ IsFault words (Usage word) = IsUsage words word
 -- its numbers lie within their limits
 abbrev pub IsWithinLimits : Command → Type 0
 IsWithinLimits (Solve file options) = AreOptions options
-IsWithinLimits (Ask file pairs options) = AreOptions options × (length pairs ≤ 64)
+IsWithinLimits (Ask file pairs options) = AreOptions options
 IsWithinLimits (Check file cert options) = AreOptions options
 IsWithinLimits (Plain file options) = AreOptions options
 IsWithinLimits (Gen n) = (2 ≤ n) × (n ≤ 63)

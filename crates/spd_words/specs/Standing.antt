@@ -1,5 +1,5 @@
 -- Which piece can stand behind those before it.
-use Rattle.std.specs.Prelude.{ℕ, ◌%◌, ◌==◌, ◌&&◌, not, Bool, true, false, List, [], ◌∷◌, ◌++◌, length, slice_get, slice_index, Option, Some, None, is_some, unwrap_or, codes, bytes_eq, MatchBool, IsTrue, ◌≡◌}
+use Rattle.std.specs.Prelude.{ℕ, ◌%◌, ◌==◌, ◌&&◌, not, Bool, false, List, [], ◌∷◌, ◌++◌, length, slice_get, slice_index, Option, Some, None, is_some, unwrap_or, codes, bytes_eq, MatchBool, IsTrue, ◌≡◌}
 use Rattle.std.specs.List.{list_any, enumerate_from}
 use Rattle.spd_words.specs.declared.verb.Verb.{Verb}
 use Rattle.spd_words.specs.declared.verb.Verb.TheVariants.{Solve, Ask, Check, Plain, Gen, Ring, Upgrade, Horizon, Evaluate, Bounded}

@@ -85,7 +85,7 @@ options_of given = record {
   nodes = unwrap_or given.nodes default_options.nodes;
   turns = unwrap_or given.turns default_options.turns;
   span = unwrap_or given.span default_options.span;
-  memo = unwrap_or given.memo default_options.memo
+  memo = unwrap_or given.memo default_options.memo;
 }
 
 -- how many sweeps a round makes

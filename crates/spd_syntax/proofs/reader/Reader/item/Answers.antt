@@ -1,8 +1,8 @@
-use Rattle.std.proofs.Common.{◌≡◌, ◌∙◌, ◌∷◌, [], ap, sym, Ok, Err}
+use Rattle.std.proofs.Common.{◌≡◌, ◌∙◌, ap, sym, Err}
 use Rattle.spd_syntax.specs.declared.refusal.Want.TheVariants as wants
-use Rattle.spd_syntax.specs.declared.sections.ItemWord.TheVariants.{Cost, LeftOut as LeftOutItem, Other as ATable}
+use Rattle.spd_syntax.specs.declared.sections.ItemWord.TheVariants.{Cost, Other as ATable}
 use Rattle.spd_syntax.specs.declared.unread.Unread.TheVariants.{Refused}
-use Rattle.spd_syntax.specs.Positions.{item, item_word}
+use Rattle.spd_syntax.specs.Positions.{item_word}
 use Rattle.spd_syntax.specs.Words.{name_passes, text_of}
 use Rattle.spd_syntax.proofs.Moves.{err_exit}
 use Rattle.spd_syntax.proofs.FileMoves.{item_other, cost_parts, observe_left, table_stops, table_tree}

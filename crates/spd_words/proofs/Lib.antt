@@ -1,0 +1,5 @@
+pub mod CallerLemmas
+mod Digits
+mod Judged
+mod Limits
+mod Sizes
