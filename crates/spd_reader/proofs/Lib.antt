@@ -13,3 +13,4 @@ pub mod LawfulActions
 pub mod LawfulVariables
 pub mod LawfulSections
 pub mod Lawful
+pub mod CallerLemmas
