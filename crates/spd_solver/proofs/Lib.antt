@@ -2,6 +2,5 @@ pub mod SolvingLaws
 mod StateTexts
 pub mod TableLaws
 pub mod Causes
-pub mod Asked
 pub mod RunLaws
 mod Writing

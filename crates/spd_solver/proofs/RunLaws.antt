@@ -24,7 +24,7 @@ use Rattle.spd_solver.specs.Command.{Way, Command, solving, AskFor, OnCommand, I
 use Rattle.spd_solver.specs.Kind.{Kind, whole, refusal, kind_of}
 use Rattle.spd_solver.specs.Run.{Ends, Refuses, HoldsRefused, HoldsAccepted, Seen, ReadsCalmly, IsUnwritten, Means, Completes, TellsRefusal}
 use Rattle.spd_solver.specs.Solve.{residual, file_limit, IsFileOf, TellsStop, RefusesFile}
-use Rattle.spd_solver.specs.inner.Stages.{IsSolution, IsUnsolved, FailsToRead, Asks, Answers, ending, finished_status, unreadable_status, unread_status, unsolved_status}
+use Rattle.spd_solver.specs.inner.Stages.{IsSolution, IsUnsolved, FailsToRead, Asks, AskWrongly, Answers, ending, finished_status, unreadable_status, unread_status, unsolved_status}
 use Rattle.spd_solver.proofs.Causes.{file_once, file_right}
 
 -- what is said of the bytes that were read is said of those that the place holds
@@ -184,3 +184,10 @@ module _ (words : List (List ℕ)) (file : List ℕ) (options : Options) (outcom
     λ wrong. absurd (subst (λ (s : Status). Means (kind_of s) (solving asks.way file options) s before now) wrong (means (solving asks.way file options) asks.asked)),
     λ wrong. absurd (asks.right word wrong),
   )
+
+-- words that can't be run end for their word
+pub wrong : (words : List (List ℕ)) (word : ℕ) → AskWrongly words word → (other : ℕ) → (S.Usage word ≡ S.Usage other) ↔ IsUsage words other
+wrong words word asks other = (
+  λ is. let same : word ≡ other = cc in subst (λ (w : ℕ). IsUsage words w) same asks.wrong,
+  λ also. ap (λ (w : ℕ). S.Usage w) (sym (asks.once other also)),
+)
