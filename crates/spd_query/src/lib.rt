@@ -6,6 +6,7 @@
 
 
 mod line;
+mod pair;
 
 
 
