@@ -5,11 +5,16 @@
 #![tactic(auto)]
 
 
+mod answering;
 mod line;
+mod names;
 mod pair;
+mod read;
+mod text;
 
 
 
 mod words;
 
 
+pub use answering::answer;
