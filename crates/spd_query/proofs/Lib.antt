@@ -1,3 +1,4 @@
 pub mod WordLaws
 pub mod NameLaws
 pub mod GivenLaws
+pub mod TextLaws

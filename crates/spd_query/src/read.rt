@@ -1,8 +1,10 @@
 //! Reading a line.
 
-ghost use Rattle.std.specs.Prelude.{◌≡◌, ◌≤◌, length, map, Ok, Err, All, MatchResult};
+ghost use Rattle.std.specs.Prelude.{◌≡◌, ◌≤◌, length, map, Ok, Err, All, IfOk, MatchResult};
 ghost use Rattle.spd_model.specs.declared.process.Var.{Var as Variable};
 ghost use Rattle.spd_model.specs.Lawful.{AreDistinct};
+ghost use Rattle.spd_model.specs.States.{sizes, IsState};
+ghost use Rattle.spd_query.specs.inner.Places.{FitsQuery};
 ghost use Rattle.spd_query.specs.Lines.{words_of, with_word, with_words, gathered, state_of_words, query_of};
 
 use crate::line::{Query, Reason};
@@ -77,7 +79,8 @@ fn read_state(vars: &[Var], line: &[u8]) -> Result<State, Reason>
     requires few { length vars.now ≤ 100 }
     requires distinct { AreDistinct (map (λ (x : Variable). x.name) vars.now) }
     requires few_values { All (λ (x : Variable). length x.values ≤ 64) vars.now }
-    ensures { result ≡ state_of_words vars.now (words_of line.now) }
+    ensures read { result ≡ state_of_words vars.now (words_of line.now) }
+    ensures fits { IfOk result (IsState (map (λ (x : Variable). length x.values) vars.now)) }
 {
     let mut given = [None; 100];
     let given = &mut given[..vars.len()];
@@ -89,7 +92,8 @@ fn read_state(vars: &[Var], line: &[u8]) -> Result<State, Reason>
 
 /// What a line asks for, or why it is refused.
 pub(crate) fn read_line(line: &[u8], model: &Model) -> Result<Query, Reason>
-    ensures { result ≡ query_of model.now.vars line.now }
+    ensures read { result ≡ query_of model.now.vars line.now }
+    ensures fits { IfOk result (FitsQuery (sizes model.now)) }
 {
     if line.len() > MOST {
         return Err(Reason::Long);
