@@ -1,3 +1,4 @@
+mod Rows
 pub mod WordLaws
 pub mod NameLaws
 pub mod GivenLaws

@@ -1,5 +1,5 @@
 -- Variables by their names.
-use Rattle.std.proofs.Common.{◌≡◌, ℕ, ◌<◌, true, false, Bool, List, [], length, map, Some, None, refl, sym, ap, ◌∙◌, subst, arith}
+use Rattle.std.proofs.Common.{◌≡◌, ℕ, ◌<◌, true, Bool, List, [], length, map, Some, None, sym, ap, ◌∙◌, arith}
 use Rattle.std.specs.Prelude.{bytes_eq, cond, nat_lt}
 use Rattle.std.specs.List.{position_or_len}
 use Rattle.std.proofs.Math.ListN.{get_or}
@@ -20,7 +20,7 @@ var-here vars name i var distinct within is same =
     let here : p (get_or vars i var) ≡ true = ap p (sym is) ∙ same in
     let name_is : (get_or vars i var).name ≡ name = (bytes_eq-Decides (get_or vars i var).name name).0 here in
     let other = λ (k : ℕ) (below : k < i).
-        bytes_eq-other (get_or vars k var).name name (λ e. distinct k i [] below (omega (arith, length-map vars (λ (x : Var). x.name)))
-            (get_or-map (λ (x : Var). x.name) vars k var [] (omega arith) ∙ e ∙ sym name_is ∙ sym (get_or-map (λ (x : Var). x.name) vars i var [] within))) in
+    bytes_eq-other (get_or vars k var).name name (λ e. distinct k i [] below (omega (arith, length-map vars (λ (x : Var). x.name)))
+    (get_or-map (λ (x : Var). x.name) vars k var [] (omega arith) ∙ e ∙ sym name_is ∙ sym (get_or-map (λ (x : Var). x.name) vars i var [] within))) in
     let first : position_or_len p vars ≡ i = position_or_len_is p vars i var (omega arith) other (λ _. here) in
     ap (λ (k : ℕ). cond (nat_lt k (length vars)) (Some k) None) first ∙ ap (λ (b : Bool). cond b (Some i) None) (lt-ltb i (length vars) within)

@@ -1,12 +1,12 @@
 -- The words of a line, and the sides of a word.
-use Rattle.std.proofs.Common.{◌≡◌, ℕ, zero, suc, ◌+◌, ◌<◌, ◌≤◌, ◌⊎◌, ⊎_elim, true, false, Bool, not, List, [], ◌∷◌, length, length-take-le, take, drop, Option, Some, None, refl, sym, ap, ◌∙◌, subst, arith}
+use Rattle.std.proofs.Common.{◌≡◌, ℕ, zero, suc, ◌+◌, ◌<◌, ◌≤◌, ⊎_elim, true, false, Bool, not, List, [], ◌∷◌, length, length-take-le, take, drop, Option, Some, None, refl, sym, ap, ◌∙◌, subst, arith}
 use Rattle.std.specs.Prelude.{filter, ◌&&◌, slice_get, if◌then◌else◌}
 use Rattle.std.specs.List.{slice_split, position_or_len, list_any}
 use Rattle.std.proofs.Math.ListN.{get_or}
 use Rattle.std.proofs.Math.Seq.{drop-cons}
 use Rattle.std.proofs.lemmas.List.{take_all, drop_all, length-drop}
 use Rattle.std.proofs.lemmas.List.Splits.{slice_split-cons_yes, slice_split_first, slice_split_none}
-use Rattle.std.proofs.lemmas.List.Sums.{passes_at_first, fails_before_first, position_or_len_is}
+use Rattle.std.proofs.lemmas.List.Sums.{passes_at_first, fails_before_first}
 use Rattle.std.proofs.lemmas.Option.{slice_get_cases}
 use Rattle.spd_query.specs.Lines.{is_blank, is_empty, words_of, is_equals, sides_of}
 use Rattle.spd_query.specs.inner.Places.{IsAtWord}
@@ -40,20 +40,20 @@ pub words-first : (line : List ℕ) → 0 < length line → IsAtWord line → wo
 words-first line some at =
     let n = position_or_len is_blank line in
     ⊎_elim
-      (λ (t : (x : ℕ) × (n < length line) × (slice_get line n ≡ Some x) × (get_or line n x ≡ x)).
-        let rest = drop (suc n) line in
-        let next : drop n line ≡ get_or line n 0 ∷ rest = drop-cons line n 0 t.1 in
-        let blank : is_blank (get_or line n 0) ≡ true = passes_at_first is_blank line 0 t.1 in
-        let count : n + 1 ≡ suc n = omega arith in
-        let more : drop (n + 1) line ≡ rest = ap (λ (k : ℕ). drop k line) count in
-        ap (filter is_word) (slice_split_first is_blank line 0 t.1) ∙ filter-word (take n line) (slice_split is_blank (drop (n + 1) line)) (first-word line some at)
-        ∙ ap (λ l. take n line ∷ words_of l) more ∙ ap (λ l. take n line ∷ l) (sym (ap words_of next ∙ words-blank (get_or line n 0) rest blank)))
-      (λ (t : (length line ≤ n) × (slice_get line n ≡ None)).
-        let none : slice_split is_blank line ≡ line ∷ [] = slice_split_none is_blank line (λ k d h. fails_before_first is_blank line k d (omega arith)) in
-        let whole : take n line ≡ line = take_all n line t.0 in
-        ap (filter is_word) none ∙ filter-word line [] (subst (λ (l : List ℕ). is_empty l ≡ false) whole (first-word line some at))
-        ∙ ap (λ l. l ∷ []) (sym whole) ∙ ap (λ l. take n line ∷ words_of l) (sym (drop_all n line t.0)))
-      (slice_get_cases line n).1
+    (λ (t : (x : ℕ) × (n < length line) × (slice_get line n ≡ Some x) × (get_or line n x ≡ x)).
+    let rest = drop (suc n) line in
+    let next : drop n line ≡ get_or line n 0 ∷ rest = drop-cons line n 0 t.1 in
+    let blank : is_blank (get_or line n 0) ≡ true = passes_at_first is_blank line 0 t.1 in
+    let count : n + 1 ≡ suc n = omega arith in
+    let more : drop (n + 1) line ≡ rest = ap (λ (k : ℕ). drop k line) count in
+    ap (filter is_word) (slice_split_first is_blank line 0 t.1) ∙ filter-word (take n line) (slice_split is_blank (drop (n + 1) line)) (first-word line some at)
+    ∙ ap (λ l. take n line ∷ words_of l) more ∙ ap (λ l. take n line ∷ l) (sym (ap words_of next ∙ words-blank (get_or line n 0) rest blank)))
+    (λ (t : (length line ≤ n) × (slice_get line n ≡ None)).
+    let none : slice_split is_blank line ≡ line ∷ [] = slice_split_none is_blank line (λ k d h. fails_before_first is_blank line k d (omega arith)) in
+    let whole : take n line ≡ line = take_all n line t.0 in
+    ap (filter is_word) none ∙ filter-word line [] (subst (λ (l : List ℕ). is_empty l ≡ false) whole (first-word line some at))
+    ∙ ap (λ l. l ∷ []) (sym whole) ∙ ap (λ l. take n line ∷ words_of l) (sym (drop_all n line t.0)))
+    (slice_get_cases line n).1
 
 -- ---- the sides of a word
 

@@ -1,5 +1,5 @@
 -- How far the reading of a line has come, and what it keeps.
-use Rattle.std.specs.Prelude.{ℕ, ◌≡◌, ◌<◌, false, List, [], ◌∷◌}
+use Rattle.std.specs.Prelude.{ℕ, ◌≡◌, false, List, [], ◌∷◌}
 use Rattle.spd_model.specs.States.{IsState}
 use Rattle.spd_query.specs.declared.line.Query.{Query}
 use Rattle.spd_query.specs.declared.line.Query.TheVariants.{State, Status}

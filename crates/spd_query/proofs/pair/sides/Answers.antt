@@ -2,7 +2,7 @@ use Rattle.std.proofs.Common.{◌≡◌, ◌+◌, ◌-◌, ◌<◌, ◌≤◌, �
 use Rattle.std.specs.List.{position_or_len}
 use Rattle.std.proofs.lemmas.List.{take_all, length-drop}
 use Rattle.spd_query.specs.Lines.{is_equals}
-use Rattle.spd_query.proofs.WordLaws.{sides-no_name, sides-no_value, sides-more, sides-both}
+use Rattle.spd_query.proofs.WordLaws.{sides-more, sides-both}
 use Rattle.spd_query.proofs.pair.sides.Goals as goal
 
 pub returns-then-equals_at-value : goal.returns-then-equals_at-value

@@ -1,4 +1,4 @@
-use Rattle.std.proofs.Common.{◌≡◌, ℕ, List, Option, Some, None, length, take, map, sym, ap, ◌∙◌, arith}
+use Rattle.std.proofs.Common.{◌≡◌, ℕ, Some, None, length, take, map, sym, ap, ◌∙◌, arith}
 use Rattle.std.proofs.lemmas.List.{take_all}
 use Rattle.std.proofs.lemmas.Option.{slice_get-get_or}
 use Rattle.spd_query.specs.Lines.{gathered}
@@ -16,5 +16,5 @@ returns c =
     let values = c.loop-var.values in
     let last : i ≡ n = omega (arith, c.loop-var-test.false, c.loop-var.auto.var-end) in
     let all : map Some (take n values) ≡ given =
-      ap (λ (k : ℕ). map Some (take k values)) (sym last) ∙ c.loop-var.invariant.so_far ∙ take_all i given c.loop-var-test.false in
+    ap (λ (k : ℕ). map Some (take k values)) (sym last) ∙ c.loop-var.invariant.so_far ∙ take_all i given c.loop-var-test.false in
     ap Some c.of.ensures ∙ sym (gathered-all (take n values)) ∙ ap gathered all
