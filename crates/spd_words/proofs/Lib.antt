@@ -3,3 +3,4 @@ mod Digits
 mod Judged
 mod Limits
 mod Sizes
+mod Rows

@@ -54,7 +54,7 @@ abbrev pub IsUsage : List (List ℕ) → ℕ → Type 0
 IsUsage [] at = at ≡ 0
 IsUsage (word ∷ behind) at =
     ((verb_named word ≡ None) × (at ≡ 0))
-    ⊎ ((verb : Verb) × (verb_named word ≡ Some verb) × FirstFault (word ∷ behind) verb [] (pieces_of behind) at)
+    ⊎ ((verb : Verb) × (verb_named word ≡ Some verb) × FirstFault (word ∷ behind) verb (pieces_of behind) at)
 
 -- what is told of words that are no command
 abbrev pub IsFault : List (List ℕ) → WordsFault → Type 0

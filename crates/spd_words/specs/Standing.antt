@@ -1,5 +1,5 @@
 -- Which piece can stand behind those before it.
-use Rattle.std.specs.Prelude.{ℕ, ◌%◌, ◌==◌, ◌&&◌, not, Bool, false, List, [], ◌∷◌, ◌++◌, length, slice_get, slice_index, Option, Some, None, is_some, unwrap_or, codes, bytes_eq, MatchBool, IsTrue, ◌≡◌}
+use Rattle.std.specs.Prelude.{ℕ, ◌%◌, ◌==◌, ◌&&◌, not, Bool, false, List, [], ◌∷◌, ◌++◌, length, slice_get, slice_index, Option, Some, None, is_some, unwrap_or, codes, bytes_eq, IsTrue, ◌≡◌}
 use Rattle.std.specs.List.{list_any, enumerate_from}
 use Rattle.spd_words.specs.declared.verb.Verb.{Verb}
 use Rattle.spd_words.specs.declared.verb.Verb.TheVariants.{Solve, Ask, Check, Plain, Gen, Ring, Upgrade, Horizon, Evaluate, Bounded}
@@ -82,13 +82,17 @@ can_stand words verb operands given (end at) = are_all words verb operands
 abbrev pub stands : List (List ℕ) → Verb → List Piece → Piece → Bool
 stands words verb before piece = can_stand words verb (operands_in before) (given_in before) piece
 
--- each of the pieces stands, the first behind those before
+-- each of the pieces can stand, the first behind those before
 abbrev pub AllStand : List (List ℕ) → Verb → List Piece → List Piece → Type 0
 AllStand words verb before [] = Unit {0}
 AllStand words verb before (piece ∷ pieces) = IsTrue (stands words verb before piece) × AllStand words verb (before ++ piece ∷ []) pieces
 
--- the first of the pieces that can't stand is in the word of this number
-abbrev pub FirstFault : List (List ℕ) → Verb → List Piece → List Piece → ℕ → Type 0
-FirstFault words verb before [] word = ⊥
-FirstFault words verb before (piece ∷ pieces) word =
-    MatchBool (stands words verb before piece) (FirstFault words verb (before ++ piece ∷ []) pieces word) (word ≡ place_of piece)
+-- The first of the pieces that can't stand is in the word of this number: those in front of it can stand, whatever comes behind.
+pub record FirstFault (words : List (List ℕ)) (verb : Verb) (pieces : List Piece) (word : ℕ) : Type 0 where
+  pub front : List Piece
+  pub faulty : Piece
+  pub back : List Piece
+  pub whole : pieces ≡ front ++ faulty ∷ back
+  pub stand : AllStand words verb [] front
+  pub fault : stands words verb front faulty ≡ false
+  pub place : word ≡ place_of faulty

@@ -16,6 +16,71 @@ use Rattle.spd_words.specs.Commands.{IsCommand, IsUsage, IsFault, meaning, comma
 use Rattle.spd_words.specs.Inner.Judging.{with_piece, judged_piece, judged, Stops, nothing_said}
 use Rattle.spd_words.proofs.Judged.{judged-next, judged-stop}
 
+-- ---- the first fault, by cases
+
+-- the first of the pieces that can't stand, the first of them behind those before, is in the word of this number
+abbrev pub Faulty : List (List ℕ) → Verb → List Piece → List Piece → ℕ → Type 0
+Faulty words verb before [] word = ⊥
+Faulty words verb before (piece ∷ pieces) word =
+    MatchBool (stands words verb before piece) (Faulty words verb (before ++ piece ∷ []) pieces word) (word ≡ place_of piece)
+
+-- pieces of which those in front can stand behind those before, and the next can't
+record Parted (words : List (List ℕ)) (verb : Verb) (before pieces : List Piece) (word : ℕ) : Type 0 where
+  front : List Piece
+  faulty : Piece
+  back : List Piece
+  whole : pieces ≡ front ++ faulty ∷ back
+  stand : AllStand words verb before front
+  fault : stands words verb (before ++ front) faulty ≡ false
+  place : word ≡ place_of faulty
+
+parted_here : (words : List (List ℕ)) (verb : Verb) (before : List Piece) (p : Piece) (ps : List Piece) (word : ℕ)
+    → stands words verb before p ≡ false → word ≡ place_of p → Parted words verb before (p ∷ ps) word
+parted_here words verb before p ps word e is =
+    record { front = []; faulty = p; back = ps; whole = refl; stand = tt; fault = ap (λ (b : List Piece). stands words verb b p) (append-nil before) ∙ e; place = is }
+
+parted_later : (words : List (List ℕ)) (verb : Verb) (before : List Piece) (p : Piece) (ps : List Piece) (word : ℕ)
+    → stands words verb before p ≡ true → Parted words verb (before ++ p ∷ []) ps word → Parted words verb before (p ∷ ps) word
+parted_later words verb before p ps word e h =
+    record {
+      front = p ∷ h.front;
+      faulty = h.faulty;
+      back = h.back;
+      whole = ap (λ (qs : List Piece). p ∷ qs) h.whole;
+      stand = (e, h.stand);
+      fault = ap (λ (b : List Piece). stands words verb b h.faulty) (sym (append_assoc before (p ∷ []) h.front)) ∙ h.fault;
+      place = h.place;
+    }
+
+parted_step : (words : List (List ℕ)) (verb : Verb) (before : List Piece) (p : Piece) (ps : List Piece) (word : ℕ) (b : Bool)
+    → stands words verb before p ≡ b → MatchBool b (Faulty words verb (before ++ p ∷ []) ps word) (word ≡ place_of p)
+    → (Faulty words verb (before ++ p ∷ []) ps word → Parted words verb (before ++ p ∷ []) ps word) → Parted words verb before (p ∷ ps) word
+parted_step words verb before p ps word true e h rest = parted_later words verb before p ps word e (rest h)
+parted_step words verb before p ps word false e h rest = parted_here words verb before p ps word e h
+
+parted : (words : List (List ℕ)) (verb : Verb) (before ps : List Piece) (word : ℕ) → Faulty words verb before ps word → Parted words verb before ps word
+parted words verb before [] word h = absurd h
+parted words verb before (p ∷ ps) word h =
+    parted_step words verb before p ps word (stands words verb before p) refl h (parted words verb (before ++ p ∷ []) ps word)
+
+pub first_from_cases : (words : List (List ℕ)) (verb : Verb) (ps : List Piece) (word : ℕ) → Faulty words verb [] ps word → FirstFault words verb ps word
+first_from_cases words verb ps word h =
+    let p = parted words verb [] ps word h in
+    record { front = p.front; faulty = p.faulty; back = p.back; whole = p.whole; stand = p.stand; fault = p.fault; place = p.place }
+
+faulty_front : (words : List (List ℕ)) (verb : Verb) (before front : List Piece) (p : Piece) (back : List Piece)
+    → AllStand words verb before front → stands words verb (before ++ front) p ≡ false → Faulty words verb before (front ++ p ∷ back) (place_of p)
+faulty_front words verb before [] p back stand fault =
+    let here : stands words verb before p ≡ false = ap (λ (b : List Piece). stands words verb b p) (sym (append-nil before)) ∙ fault in rw (here) refl
+faulty_front words verb before (q ∷ front) p back stand fault =
+    let here : stands words verb before q ≡ true = stand.0 in
+    rw (here) (faulty_front words verb (before ++ q ∷ []) front p back stand.1 (ap (λ (b : List Piece). stands words verb b p) (append_assoc before (q ∷ []) front) ∙ fault))
+
+cases_from_first : (words : List (List ℕ)) (verb : Verb) (ps : List Piece) (word : ℕ) → FirstFault words verb ps word → Faulty words verb [] ps word
+cases_from_first words verb ps word h =
+    subst (λ (qs : List Piece). Faulty words verb [] qs word) (sym h.whole)
+    (subst (Faulty words verb [] (h.front ++ h.faulty ∷ h.back)) (sym h.place) (faulty_front words verb [] h.front h.faulty h.back h.stand h.fault))
+
 -- ---- what pieces say, with one more
 
 pub operands_in-append : (ps qs : List Piece) → operands_in (ps ++ qs) ≡ operands_in ps ++ operands_in qs
@@ -105,15 +170,15 @@ said_then words verb before (p ∷ ps) after h =
 
 fault_step : (words : List (List ℕ)) (verb : Verb) (before : List Piece) (p : Piece) (ps : List Piece) (word : ℕ) (b : Bool)
     → stands words verb before p ≡ b → judged words verb (p ∷ ps) (said_in before) ≡ Err word
-    → (judged words verb ps (said_in (before ++ p ∷ [])) ≡ Err word → FirstFault words verb (before ++ p ∷ []) ps word)
-    → FirstFault words verb before (p ∷ ps) word
+    → (judged words verb ps (said_in (before ++ p ∷ [])) ≡ Err word → Faulty words verb (before ++ p ∷ []) ps word)
+    → Faulty words verb before (p ∷ ps) word
 fault_step words verb before p ps word true e h rest =
     rw (e) (rest (ap (judged words verb ps) (said_in-more before p) ∙ step_goes words verb p ps (said_in before) (Err word) h e))
 fault_step words verb before p ps word false e h rest =
     let same : Err (place_of p) ≡ Err word = step_stops words verb p ps (said_in before) (Err word) h e in rw (e) (cc)
 
 pub first_fault : (words : List (List ℕ)) (verb : Verb) (before ps : List Piece) (word : ℕ)
-    → judged words verb ps (said_in before) ≡ Err word → FirstFault words verb before ps word
+    → judged words verb ps (said_in before) ≡ Err word → Faulty words verb before ps word
 first_fault words verb before [] word h = cc
 first_fault words verb before (p ∷ ps) word h =
     fault_step words verb before p ps word (stands words verb before p) refl h (first_fault words verb (before ++ p ∷ []) ps word)
@@ -138,7 +203,7 @@ pub fault_is : (words : List (List ℕ)) (first : List ℕ) (verb : Verb) (u : W
     → Stops (judged words verb (pieces_of (drop 1 words)) nothing_said) u → IsFault words u
 fault_is [] first verb (Usage word) some is named told = absurd (omega arith)
 fault_is (word ∷ behind) first verb (Usage at) some is named told =
-    inr (verb, ap verb_named (sym is) ∙ named, first_fault (word ∷ behind) verb [] (pieces_of behind) at told)
+    inr (verb, ap verb_named (sym is) ∙ named, first_from_cases (word ∷ behind) verb (pieces_of behind) at (first_fault (word ∷ behind) verb [] (pieces_of behind) at told))
 
 -- ---- one command, or one fault
 
@@ -156,7 +221,7 @@ match_true Q true so m = m
 match_true Q false so m = cc
 
 stand_or_fault : (words : List (List ℕ)) (verb : Verb) (before ps : List Piece) (word : ℕ)
-    → AllStand words verb before ps → FirstFault words verb before ps word → ⊥
+    → AllStand words verb before ps → Faulty words verb before ps word → ⊥
 stand_or_fault words verb before [] word all fault = fault
 stand_or_fault words verb before (p ∷ ps) word all fault =
     stand_or_fault words verb (before ++ p ∷ []) ps word all.1 (match_true (word ≡ place_of p) (stands words verb before p) all.0 fault)
@@ -167,14 +232,14 @@ not_both (first ∷ behind) command word x (inl y) = cc (x.1, y.0)
 not_both (first ∷ behind) command word x (inr y) =
     let all : AllStand (first ∷ behind) y.0 [] (pieces_of behind) =
     subst (λ (v : Verb). AllStand (first ∷ behind) v [] (pieces_of behind)) (same_verb first x.0 y.0 x.1 y.1) x.2 in
-    stand_or_fault (first ∷ behind) y.0 [] (pieces_of behind) word all y.2
+    stand_or_fault (first ∷ behind) y.0 [] (pieces_of behind) word all (cases_from_first (first ∷ behind) y.0 (pieces_of behind) word y.2)
 
 match_both : {P Q : Type 0} (v w n : ℕ) (b : Bool) → MatchBool b P (v ≡ n) → MatchBool b Q (w ≡ n) → (P → Q → v ≡ w) → v ≡ w
 match_both v w n true x y rest = rest x y
 match_both v w n false x y rest = x ∙ sym y
 
 one_fault : (words : List (List ℕ)) (verb : Verb) (before ps : List Piece) (v w : ℕ)
-    → FirstFault words verb before ps v → FirstFault words verb before ps w → v ≡ w
+    → Faulty words verb before ps v → Faulty words verb before ps w → v ≡ w
 one_fault words verb before [] v w a b = absurd a
 one_fault words verb before (p ∷ ps) v w a b =
     match_both v w (place_of p) (stands words verb before p) a b (one_fault words verb (before ++ p ∷ []) ps v w)
@@ -185,9 +250,9 @@ one_usage (first ∷ behind) v w (inl x) (inl y) = x.1 ∙ sym y.1
 one_usage (first ∷ behind) v w (inl x) (inr y) = cc (x.0, y.1)
 one_usage (first ∷ behind) v w (inr x) (inl y) = cc (x.1, y.0)
 one_usage (first ∷ behind) v w (inr x) (inr y) =
-    let fault : FirstFault (first ∷ behind) y.0 [] (pieces_of behind) v =
-    subst (λ (u : Verb). FirstFault (first ∷ behind) u [] (pieces_of behind) v) (same_verb first x.0 y.0 x.1 y.1) x.2 in
-    one_fault (first ∷ behind) y.0 [] (pieces_of behind) v w fault y.2
+    let fault : FirstFault (first ∷ behind) y.0 (pieces_of behind) v =
+    subst (λ (u : Verb). FirstFault (first ∷ behind) u (pieces_of behind) v) (same_verb first x.0 y.0 x.1 y.1) x.2 in
+    one_fault (first ∷ behind) y.0 [] (pieces_of behind) v w (cases_from_first (first ∷ behind) y.0 (pieces_of behind) v fault) (cases_from_first (first ∷ behind) y.0 (pieces_of behind) w y.2)
 
 judged_some : (words : List (List ℕ)) (verb : Verb) (behind : List (List ℕ)) (first : List ℕ) → words ≡ first ∷ behind → verb_named first ≡ Some verb
     → (judging : Result Said ℕ) → judged words verb (pieces_of behind) nothing_said ≡ judging
@@ -197,7 +262,7 @@ judged_some words verb behind first is named (Ok said) told =
     inl (meaning (first ∷ behind) verb (pieces_of behind), (verb, named, all_stand (first ∷ behind) verb [] (pieces_of behind) said told', refl))
 judged_some words verb behind first is named (Err word) told =
     let told' : judged (first ∷ behind) verb (pieces_of behind) nothing_said ≡ Err word = subst (λ (ws : List (List ℕ)). judged ws verb (pieces_of behind) nothing_said ≡ Err word) is told in
-    inr (word, inr (verb, named, first_fault (first ∷ behind) verb [] (pieces_of behind) word told'))
+    inr (word, inr (verb, named, first_from_cases (first ∷ behind) verb (pieces_of behind) word (first_fault (first ∷ behind) verb [] (pieces_of behind) word told')))
 
 named_some : (first : List ℕ) (behind : List (List ℕ)) (named : Option Verb) → verb_named first ≡ named
     → ((command : Command) × IsCommand (first ∷ behind) command) ⊎ ((word : ℕ) × IsUsage (first ∷ behind) word)
