@@ -200,3 +200,26 @@ fn first_faults_are_told(rt: HostRuntime) -> Result<(), Fail> {
     )?;
     Ok(())
 }
+
+/// `ask m` and so many pairs of files.
+fn ask_line(alloc: Global, pairs: u32) -> Result<String, AllocError> {
+    let mut line = String::from_str(alloc, "ask m")?;
+    for pair in 0..pairs {
+        write!(line, " q{pair} a{pair}")?;
+    }
+    Ok(line)
+}
+
+#[test]
+fn at_most_64_pairs_stand(rt: HostRuntime) -> Result<(), Fail> {
+    let alloc = rt.alloc();
+    let words = words_of(alloc, ask_line(alloc, 64)?.as_str())?;
+    let count = match read_words(&words) {
+        Ok(Command::Ask { pairs, .. }) => pairs.as_slice().len(),
+        _ => 0,
+    };
+    assert_eq!(rt; count, 64);
+    let answered = answer(alloc, ask_line(alloc, 65)?.as_str())?;
+    assert_eq!(rt; answered.as_str(), "usage 130");
+    Ok(())
+}
