@@ -665,10 +665,6 @@ reward_else (Setting q) a b d l o = absurd (d q refl)
 reward_else LeftOutSection a b d l o = absurd (l refl)
 reward_else NoSection a b d l o = absurd (o refl)
 
-pub none_left : (ts : List Token) → length ts ≡ 0 → ts ≡ []
-none_left [] e = refl
-none_left (t ∷ ts) e = absurd (omega arith)
-
 -- the file ends before each section that must stand was read
 pub sections_lack : (file : List ℕ) (c k : Counts) (ss : List Section) (a e : List Token) (f : Refusal) → AreSections file c ss k a e → e ≡ [] → has_all k ≡ false → f ≡ Expected (here file e) wants.Section → Faults file (section c ∷ []) a f
 unfolding fault_from

@@ -1,6 +1,6 @@
 -- How tokens move the first fault: from what is next before them to what is next behind them.
 use Rattle.std.proofs.Common.{◌≡◌, ℕ, ◌+◌, List, [], ◌∷◌, ◌++◌, length, Some, Ok, Err, Result, sym, ap, subst, ◌∙◌, arith, append_assoc}
-use Rattle.std.specs.Prelude.{IfOk, IfErr, IsErrAnd}
+use Rattle.std.specs.Prelude.{IfErr, IsErrAnd}
 use Rattle.spd_lex.specs.declared.token.Token.{Token}
 use Rattle.spd_lex.specs.declared.token.Kind.{Kind}
 use Rattle.spd_lex.specs.declared.token.Kind.TheVariants.{Word as WordKind}
@@ -127,14 +127,6 @@ refused_exit file ps ts (Err e) f is faults = subst (Fails file ps ts) (sym is) 
 pub same_exit : {X : Type 0} (file : List ℕ) (ps : List Position) (ts : List Token) (r : Result X Unread) (u : Unread) → IsErrAnd r (λ (e : Unread). e ≡ u) → Fails file ps ts u → IfErr r (Fails file ps ts)
 same_exit file ps ts (Ok x) u is fails = tt
 same_exit file ps ts (Err e) u is fails = subst (Fails file ps ts) (sym is) fails
-
-pub ok_map : {A E : Type 0} {P Q : A → Type 0} (r : Result A E) → ((x : A) → P x → Q x) → IfOk r P → IfOk r Q
-ok_map (Ok x) f h = f x h
-ok_map (Err e) f h = tt
-
-pub err_map : {A E : Type 0} {P Q : E → Type 0} (r : Result A E) → ((e : E) → P e → Q e) → IfErr r P → IfErr r Q
-err_map (Ok x) f h = tt
-err_map (Err e) f h = f e h
 
 pub err_exit : {X E : Type 0} (P : E → Type 0) (r : Result X E) (e : E) → IsErrAnd r (λ (x : E). x ≡ e) → P e → IfErr r P
 err_exit P (Ok x) e is p = tt

@@ -1,5 +1,5 @@
 -- The grammar of the command's words: which command they are, or the first word that can't stand.
-use Rattle.std.specs.Prelude.{ℕ, ◌≡◌, ◌≤◌, ◌⊎◌, List, [], ◌∷◌, drop, length, slice_index, Option, Some, None, unwrap_or, IfSome}
+use Rattle.std.specs.Prelude.{ℕ, ◌≡◌, ◌≤◌, ◌⊎◌, List, [], ◌∷◌, drop, slice_index, Some, None, unwrap_or, IfSome}
 use Rattle.spd_words.specs.declared.verb.Verb.{Verb}
 use Rattle.spd_words.specs.declared.verb.Verb.TheVariants as verbs
 use Rattle.spd_words.specs.declared.given.Given.{Given}
@@ -54,7 +54,7 @@ abbrev pub IsUsage : List (List ℕ) → ℕ → Type 0
 IsUsage [] at = at ≡ 0
 IsUsage (word ∷ behind) at =
     ((verb_named word ≡ None) × (at ≡ 0))
-    ⊎ ((verb : Verb) × (verb_named word ≡ Some verb) × FirstFault (word ∷ behind) verb [] (pieces_of behind) at)
+    ⊎ ((verb : Verb) × (verb_named word ≡ Some verb) × FirstFault (word ∷ behind) verb (pieces_of behind) at)
 
 -- what is told of words that are no command
 abbrev pub IsFault : List (List ℕ) → WordsFault → Type 0
@@ -65,7 +65,7 @@ IsFault words (Usage word) = IsUsage words word
 -- its numbers lie within their limits
 abbrev pub IsWithinLimits : Command → Type 0
 IsWithinLimits (Solve file options) = AreOptions options
-IsWithinLimits (Ask file pairs options) = AreOptions options × (length pairs ≤ 64)
+IsWithinLimits (Ask file pairs options) = AreOptions options
 IsWithinLimits (Check file cert options) = AreOptions options
 IsWithinLimits (Plain file options) = AreOptions options
 IsWithinLimits (Gen n) = (2 ≤ n) × (n ≤ 63)

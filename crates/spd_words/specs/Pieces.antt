@@ -1,5 +1,5 @@
 -- What the words behind the command are: operands, options and their values, each with the number of its word.
-use Rattle.std.specs.Prelude.{ℕ, ◌+◌, ◌==◌, Bool, true, false, if◌then◌else◌, List, [], ◌∷◌, ◌++◌, take, drop, position, Option, Some, None, codes, bytes_eq}
+use Rattle.std.specs.Prelude.{ℕ, ◌+◌, ◌==◌, Bool, false, if◌then◌else◌, List, [], ◌∷◌, ◌++◌, take, drop, position, Option, Some, None, codes, bytes_eq}
 use Rattle.spd_words.specs.declared.verb.Key.{Key}
 use Rattle.spd_words.specs.declared.expects.Expects.{Expects}
 use Rattle.spd_words.specs.declared.expects.Expects.TheVariants.{Anything, Value, Operands}

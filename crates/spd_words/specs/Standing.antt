@@ -1,10 +1,10 @@
 -- Which piece can stand behind those before it.
-use Rattle.std.specs.Prelude.{ℕ, ◌%◌, ◌==◌, ◌&&◌, not, Bool, true, false, List, [], ◌∷◌, ◌++◌, length, slice_get, slice_index, Option, Some, None, is_some, unwrap_or, codes, bytes_eq, MatchBool, IsTrue, ◌≡◌}
+use Rattle.std.specs.Prelude.{ℕ, ◌%◌, ◌==◌, ◌&&◌, not, Bool, false, List, [], ◌∷◌, ◌++◌, length, slice_get, slice_index, Option, Some, None, is_some, unwrap_or, codes, bytes_eq, IsTrue, ◌≡◌}
 use Rattle.std.specs.List.{list_any, enumerate_from}
 use Rattle.spd_words.specs.declared.verb.Verb.{Verb}
 use Rattle.spd_words.specs.declared.verb.Verb.TheVariants.{Solve, Ask, Check, Plain, Gen, Ring, Upgrade, Horizon, Evaluate, Bounded}
 use Rattle.spd_words.specs.declared.verb.Role.{Role}
-use Rattle.spd_words.specs.declared.verb.Role.TheVariants.{Input, Output, Size}
+use Rattle.spd_words.specs.declared.verb.Role.TheVariants.{Size}
 use Rattle.spd_words.specs.declared.given.Given.{Given}
 use Rattle.spd_words.specs.Verbs.{takes, role_of, is_role}
 use Rattle.spd_words.specs.Values.{number_in, is_value, with_value, is_given, nothing_given}
@@ -50,9 +50,8 @@ is_name words verb operands role text = not (length text == 0) && not (repeats w
 -- a text can stand in this role behind these operands
 abbrev pub fits : List (List ℕ) → Verb → List ℕ → Option Role → List ℕ → Bool
 fits words verb operands None text = false
-fits words verb operands (Some Input) text = is_name words verb operands Input text
-fits words verb operands (Some Output) text = is_name words verb operands Output text
 fits words verb operands (Some Size) text = is_some (number_in 2 63 text)
+fits words verb operands (Some role) text = is_name words verb operands role text
 
 -- no operand is missing; `ask` with the standard input as its file and no pair would read the same input twice
 abbrev pub are_all : List (List ℕ) → Verb → List ℕ → Bool
@@ -82,13 +81,17 @@ can_stand words verb operands given (end at) = are_all words verb operands
 abbrev pub stands : List (List ℕ) → Verb → List Piece → Piece → Bool
 stands words verb before piece = can_stand words verb (operands_in before) (given_in before) piece
 
--- each of the pieces stands, the first behind those before
+-- each of the pieces can stand, the first behind those before
 abbrev pub AllStand : List (List ℕ) → Verb → List Piece → List Piece → Type 0
 AllStand words verb before [] = Unit {0}
 AllStand words verb before (piece ∷ pieces) = IsTrue (stands words verb before piece) × AllStand words verb (before ++ piece ∷ []) pieces
 
--- the first of the pieces that can't stand is in the word of this number
-abbrev pub FirstFault : List (List ℕ) → Verb → List Piece → List Piece → ℕ → Type 0
-FirstFault words verb before [] word = ⊥
-FirstFault words verb before (piece ∷ pieces) word =
-    MatchBool (stands words verb before piece) (FirstFault words verb (before ++ piece ∷ []) pieces word) (word ≡ place_of piece)
+-- The first of the pieces that can't stand is in the word of this number: those in front of it can stand, whatever comes behind.
+pub record FirstFault (words : List (List ℕ)) (verb : Verb) (pieces : List Piece) (word : ℕ) : Type 0 where
+  pub front : List Piece
+  pub faulty : Piece
+  pub back : List Piece
+  pub whole : pieces ≡ front ++ faulty ∷ back
+  pub stand : AllStand words verb [] front
+  pub fault : stands words verb front faulty ≡ false
+  pub place : word ≡ place_of faulty

@@ -1,5 +1,5 @@
 -- The values of options and operands: which texts they are, their limits, and what they are where none is given.
-use Rattle.std.specs.Prelude.{ℕ, ◌&&◌, nat_le, Bool, if◌then◌else◌, List, length, Option, Some, None, is_some, unwrap_or, Result, Ok, Err, ℤ, pos, negsuc}
+use Rattle.std.specs.Prelude.{ℕ, ◌^◌, ◌&&◌, nat_le, Bool, if◌then◌else◌, List, length, Option, Some, None, is_some, unwrap_or, Result, Ok, Err, ℤ, pos, negsuc}
 use Rattle.std.specs.List.{list_all}
 use Rattle.std.specs.Char.{is_ascii_digit}
 use Rattle.std.specs.Str.Parse.{digits_value}
@@ -42,30 +42,39 @@ span_of text = span_from (decimal_of text)
 
 -- ---- options
 
--- the value of an option's text lies within its limits
+-- the least and the greatest value of an option that is a whole number; a span has limits of its own
+abbrev pub limits : Key → ℕ × ℕ
+limits Workers = (1, 64)
+limits Nodes = (16, 8388608)
+limits Turns = (0, 1000000)
+limits Span = (0, 10 ^ 30)
+limits Memo = (1, 8388608)
+limits Steps = (0, 1000)
+limits Rounds = (0, 1000000)
+limits Sweeps = (1, 1000)
+
+-- the whole number that an option's text says, where it lies within the limits
+abbrev pub number_of : Key → List ℕ → Option ℕ
+number_of key text = number_in (limits key).0 (limits key).1 text
+
+-- the text is a value of the option
 abbrev pub is_value : Key → List ℕ → Bool
-is_value Workers text = is_some (number_in 1 64 text)
-is_value Nodes text = is_some (number_in 16 8388608 text)
-is_value Turns text = is_some (number_in 0 1000000 text)
 is_value Span text = is_some (span_of text)
-is_value Memo text = is_some (number_in 1 8388608 text)
-is_value Steps text = is_some (number_in 0 1000 text)
-is_value Rounds text = is_some (number_in 0 1000000 text)
-is_value Sweeps text = is_some (number_in 1 1000 text)
+is_value key text = is_some (number_of key text)
 
 abbrev pub nothing_given : Given
 nothing_given = record { workers = None; nodes = None; turns = None; span = None; memo = None; steps = None; rounds = None; sweeps = None }
 
 -- with the value of one more option
 abbrev pub with_value : Key → List ℕ → Given → Given
-with_value Workers text given = record given { workers = number_in 1 64 text }
-with_value Nodes text given = record given { nodes = number_in 16 8388608 text }
-with_value Turns text given = record given { turns = number_in 0 1000000 text }
+with_value Workers text given = record given { workers = number_of Workers text }
+with_value Nodes text given = record given { nodes = number_of Nodes text }
+with_value Turns text given = record given { turns = number_of Turns text }
 with_value Span text given = record given { span = span_of text }
-with_value Memo text given = record given { memo = number_in 1 8388608 text }
-with_value Steps text given = record given { steps = number_in 0 1000 text }
-with_value Rounds text given = record given { rounds = number_in 0 1000000 text }
-with_value Sweeps text given = record given { sweeps = number_in 1 1000 text }
+with_value Memo text given = record given { memo = number_of Memo text }
+with_value Steps text given = record given { steps = number_of Steps text }
+with_value Rounds text given = record given { rounds = number_of Rounds text }
+with_value Sweeps text given = record given { sweeps = number_of Sweeps text }
 
 -- the option was given
 abbrev pub is_given : Key → Given → Bool
@@ -85,7 +94,7 @@ options_of given = record {
   nodes = unwrap_or given.nodes default_options.nodes;
   turns = unwrap_or given.turns default_options.turns;
   span = unwrap_or given.span default_options.span;
-  memo = unwrap_or given.memo default_options.memo
+  memo = unwrap_or given.memo default_options.memo;
 }
 
 -- how many sweeps a round makes

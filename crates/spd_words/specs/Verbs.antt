@@ -1,5 +1,5 @@
 -- The ten commands: their words, the operands and the options that each takes.
-use Rattle.std.specs.Prelude.{ℕ, ◌%◌, ◌==◌, nat_le, nat_lt, Bool, true, false, if◌then◌else◌, List, Option, Some, None, codes, bytes_eq}
+use Rattle.std.specs.Prelude.{ℕ, ◌%◌, ◌==◌, nat_lt, Bool, true, false, if◌then◌else◌, List, Option, Some, None, codes, bytes_eq}
 use Rattle.spd_words.specs.declared.verb.Verb.{Verb}
 use Rattle.spd_words.specs.declared.verb.Verb.TheVariants.{Solve, Ask, Check, Plain, Gen, Ring, Upgrade, Horizon, Evaluate, Bounded}
 use Rattle.spd_words.specs.declared.verb.Key.{Key}
@@ -37,68 +37,37 @@ key_named word =
 
 -- ---- options
 
--- an option of a whole run
+-- an option of a run: workers, nodes, turns, span, memo
 abbrev pub is_of_run : Key → Bool
-is_of_run Workers = true
-is_of_run Nodes = true
-is_of_run Turns = true
-is_of_run Span = true
-is_of_run Memo = true
 is_of_run Steps = false
 is_of_run Rounds = false
 is_of_run Sweeps = false
+is_of_run key = true
 
--- an option of a store of nodes
+-- an option of a store of nodes and its memo
 abbrev pub is_of_store : Key → Bool
-is_of_store Workers = false
 is_of_store Nodes = true
-is_of_store Turns = false
-is_of_store Span = false
 is_of_store Memo = true
-is_of_store Steps = false
-is_of_store Rounds = false
-is_of_store Sweeps = false
+is_of_store key = false
 
--- one of two more options, or one of a store
+-- an option of a run over tables
 abbrev pub is_of_tables : Key → Bool
-is_of_tables Workers = false
-is_of_tables Nodes = false
 is_of_tables Turns = true
 is_of_tables Span = true
-is_of_tables Memo = false
-is_of_tables Steps = false
-is_of_tables Rounds = false
-is_of_tables Sweeps = false
+is_of_tables key = false
 
 abbrev pub is_of_horizon : Key → Bool
-is_of_horizon Workers = false
-is_of_horizon Nodes = true
-is_of_horizon Turns = false
-is_of_horizon Span = false
-is_of_horizon Memo = true
 is_of_horizon Steps = true
-is_of_horizon Rounds = false
-is_of_horizon Sweeps = false
+is_of_horizon key = is_of_store key
 
-abbrev pub is_of_evaluation : Key → Bool
-is_of_evaluation Workers = false
-is_of_evaluation Nodes = true
-is_of_evaluation Turns = true
-is_of_evaluation Span = false
-is_of_evaluation Memo = true
-is_of_evaluation Steps = false
-is_of_evaluation Rounds = true
-is_of_evaluation Sweeps = true
+abbrev pub is_of_bounded : Key → Bool
+is_of_bounded Turns = true
+is_of_bounded key = is_of_store key
 
-abbrev pub is_of_bounds : Key → Bool
-is_of_bounds Workers = false
-is_of_bounds Nodes = true
-is_of_bounds Turns = true
-is_of_bounds Span = false
-is_of_bounds Memo = true
-is_of_bounds Steps = false
-is_of_bounds Rounds = false
-is_of_bounds Sweeps = false
+abbrev pub is_of_evaluate : Key → Bool
+is_of_evaluate Rounds = true
+is_of_evaluate Sweeps = true
+is_of_evaluate key = is_of_bounded key
 
 -- the command takes the option
 abbrev pub takes : Verb → Key → Bool
@@ -110,8 +79,8 @@ takes Gen key = false
 takes Ring key = is_of_run key
 takes Upgrade key = is_of_store key
 takes Horizon key = is_of_horizon key
-takes Evaluate key = is_of_evaluation key
-takes Bounded key = is_of_bounds key
+takes Evaluate key = is_of_evaluate key
+takes Bounded key = is_of_bounded key
 
 -- ---- operands
 
@@ -147,15 +116,9 @@ role_of Horizon n = one_input n
 role_of Evaluate n = two_inputs n
 role_of Bounded n = two_inputs n
 
--- an operand behind so many others has this role
+-- it is this role
 abbrev pub is_role : Option Role → Role → Bool
-is_role None role = false
 is_role (Some Input) Input = true
-is_role (Some Input) Output = false
-is_role (Some Input) Size = false
-is_role (Some Output) Input = false
 is_role (Some Output) Output = true
-is_role (Some Output) Size = false
-is_role (Some Size) Input = false
-is_role (Some Size) Output = false
 is_role (Some Size) Size = true
+is_role other role = false

@@ -1,9 +1,9 @@
 //! What the words of a command ask for.
 
+ghost use Rattle.std.specs.Prelude.{◌≡◌, ◌<◌, [], ◌∷◌, ◌++◌, length};
+
 use spd_model::Options;
 use std::marker::Model;
-
-ghost use Rattle.std.specs.Prelude.{◌≡◌, ◌<◌, [], ◌∷◌, ◌++◌, length};
 
 /// The files of a client of `ask`, by the numbers of their words.
 #[derive(Clone, Copy, PartialEq, Eq, Debug)]
@@ -68,7 +68,10 @@ impl Pairs {
 #[derive(Debug, Drop)]
 pub enum Command {
     /// Solve the model of a file, and write its result.
-    Solve { file: usize, options: Options },
+    Solve {
+        file: usize,
+        options: Options,
+    },
     /// The same, while clients ask. No pairs stand for the one pair of standard input and output.
     Ask {
         file: usize,
@@ -82,11 +85,19 @@ pub enum Command {
         options: Options,
     },
     /// Solve the model of a file over tables.
-    Plain { file: usize, options: Options },
+    Plain {
+        file: usize,
+        options: Options,
+    },
     /// Write the model of a ring of 2 to 63 variables.
-    Gen { n: u32 },
+    Gen {
+        n: u32,
+    },
     /// Solve the model of a ring of 2 to 63 variables, and write a summary.
-    Ring { n: u32, options: Options },
+    Ring {
+        n: u32,
+        options: Options,
+    },
     /// Judge a certificate of a model, and write it in its newest form.
     Upgrade {
         file: usize,

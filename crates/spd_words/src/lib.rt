@@ -18,4 +18,8 @@ mod words;
 
 pub use command::{Command, Pair, Pairs};
 pub use fault::WordsFault;
-pub use words::read_words;
+pub use text::text_at;
+pub use words::{law_one_answer, read_words};
+
+#[cfg(test)]
+mod tests;

@@ -1,6 +1,6 @@
 //! The operands of a command, by the numbers of their words.
 
-ghost use Rattle.std.specs.Prelude.{◌≡◌, ◌<◌, [], ◌∷◌, ◌++◌, length};
+ghost use Rattle.std.specs.Prelude.{◌≡◌, ◌<◌, ◌≤◌, [], ◌∷◌, ◌++◌, length};
 
 use std::marker::Model;
 
@@ -40,7 +40,8 @@ impl Places {
     }
 
     pub(crate) fn as_slice(&self) -> &[usize]
-        ensures { result.now ≡ self.now }
+        ensures places { result.now ≡ self.now }
+        ensures few { length result.now ≤ 129 }
     {
         &self.places[..self.len]
     }

@@ -27,10 +27,8 @@ pub(crate) struct Said {
 fn repeats(words: &[Word], verb: Verb, operands: &[usize], role: Role, text: &[u8]) -> bool
     ensures { result ≡ repeats words.now verb operands.now role text.now }
 {
-    operands
-        .iter()
-        .enumerate()
-        .any(|(before, at)| verb.has_role(before, role) && text_at(words, *at) == text)
+    operands.iter().enumerate().any(|(before, at)| verb.has_role(before, role)
+        && text_at(words, *at) == text)
 }
 
 /// Whether a text can stand in this role behind these operands.
@@ -39,9 +37,8 @@ fn fits(words: &[Word], verb: Verb, operands: &[usize], role: Option<Role>, text
 {
     match role {
         None => false,
-        Some(Role::Input) => !text.is_empty() && !repeats(words, verb, operands, Role::Input, text),
-        Some(Role::Output) => !text.is_empty() && !repeats(words, verb, operands, Role::Output, text),
         Some(Role::Size) => number_in(2, 63, text).is_some(),
+        Some(role) => !text.is_empty() && !repeats(words, verb, operands, role, text),
     }
 }
 
@@ -69,7 +66,12 @@ impl Said {
     }
 
     /// Takes an operand, where it can stand.
-    pub(crate) fn add_operand(&mut self, words: &[Word], verb: Verb, at: usize) -> Result<(), WordsFault>
+    pub(crate) fn add_operand(
+        &mut self,
+        words: &[Word],
+        verb: Verb,
+        at: usize,
+    ) -> Result<(), WordsFault>
         ensures { Judges (judged_piece words.now verb (operand at) self.old) result self.new }
     {
         let operands = self.operands.as_slice();
@@ -121,7 +123,13 @@ impl Said {
     }
 
     /// Takes the pieces of a word, where they can stand, and says what the next word is.
-    pub(crate) fn add_word(&mut self, words: &[Word], verb: Verb, expects: Expects, at: usize) -> Result<Expects, WordsFault>
+    pub(crate) fn add_word(
+        &mut self,
+        words: &[Word],
+        verb: Verb,
+        expects: Expects,
+        at: usize,
+    ) -> Result<Expects, WordsFault>
         ensures said { Judges (judged words.now verb (word_pieces expects at (text_at words.now at)) self.old) result self.new }
         ensures next { IfOk result (λ next. next ≡ behind_word expects (text_at words.now at)) }
     {

@@ -1,17 +1,24 @@
 //! The values of options and operands.
 
-ghost use Rattle.std.specs.Prelude.{◌≡◌, ◌≤◌};
+ghost use Rattle.std.specs.Prelude.{◌≡◌, ◌≤◌, length};
+ghost use Rattle.std.specs.List.{list_all};
+ghost use Rattle.std.specs.Char.{is_ascii_digit};
 ghost use Rattle.std.specs.Str.Parse.{AllDigits, digits_value};
-ghost use Rattle.std.specs.Prelude.{length};
 ghost use Rattle.spd_words.specs.Values.{is_number, number_in, span_of};
 
 use spd_scaled::{read_decimal, scale};
+
+fn are_digits(text: &[u8]) -> bool
+    ensures { result ≡ list_all is_ascii_digit text.now }
+{
+    text.iter().all(|byte| byte.is_ascii_digit())
+}
 
 /// Whether a text is one to ten digits.
 fn is_number(text: &[u8]) -> bool
     ensures { result ≡ is_number text.now }
 {
-    !text.is_empty() && text.len() <= 10 && text.iter().all(|byte| byte.is_ascii_digit())
+    !text.is_empty() && text.len() <= 10 && are_digits(text)
 }
 
 /// The number that the digits write.

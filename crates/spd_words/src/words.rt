@@ -1,6 +1,6 @@
 //! Reading the words of a command.
 
-ghost use Rattle.std.specs.Prelude.{◌≡◌, ◌≤◌, ℕ, Ok, Err, IfOk, IfErr, length};
+ghost use Rattle.std.specs.Prelude.{◌≡◌, ◌<◌, ◌≤◌, ◌⊎◌, ℕ, List, Ok, Err, drop, IfOk, IfErr, length};
 ghost use Rattle.spd_words.specs.Commands.{IsCommand, IsUsage, IsFault, IsWithinLimits, pairs_of, size_of, command_from};
 ghost use Rattle.spd_words.specs.declared.command.Command.{Command as CommandValue};
 ghost use Rattle.spd_words.specs.Inner.Judging.{Reads};
@@ -31,6 +31,17 @@ fn pairs_of(places: &[usize]) -> Pairs
     pairs
 }
 
+/// The files of the clients behind the first file.
+fn pairs_behind(operands: &[usize]) -> Pairs
+    requires { length operands.now ≤ 129 }
+    ensures { result ≡ pairs_of (drop 1 operands.now) }
+{
+    match operands {
+        [_, places @ ..] => pairs_of(places),
+        [] => Pairs::new(),
+    }
+}
+
 /// The number that the operand is.
 fn size_of(words: &[Word], operands: &[usize]) -> u32
     ensures { result ≡ size_of words.now operands.now }
@@ -49,20 +60,52 @@ fn command_from(words: &[Word], verb: Verb, said: &Said) -> Command
     let options = said.given.options();
     match verb {
         Verb::Solve => Command::Solve { file, options },
-        Verb::Ask => Command::Ask { file, pairs: pairs_of(operands.get(1..).unwrap_or(&[])), options },
-        Verb::Check => Command::Check { file, cert: second, options },
+        Verb::Ask => Command::Ask {
+            file,
+            pairs: pairs_behind(operands),
+            options,
+        },
+        Verb::Check => Command::Check {
+            file,
+            cert: second,
+            options,
+        },
         Verb::Plain => Command::Plain { file, options },
-        Verb::Gen => Command::Gen { n: size_of(words, operands) },
-        Verb::Ring => Command::Ring { n: size_of(words, operands), options },
-        Verb::Upgrade => Command::Upgrade { file, cert: second, options },
-        Verb::Horizon => Command::Horizon { file, steps: said.given.steps, options },
-        Verb::Evaluate => Command::Evaluate { file, cert: second, rounds: said.given.rounds, sweeps: said.given.sweeps(), options },
-        Verb::Bounded => Command::Bounded { file, upper: second, options },
+        Verb::Gen => Command::Gen {
+            n: size_of(words, operands),
+        },
+        Verb::Ring => Command::Ring {
+            n: size_of(words, operands),
+            options,
+        },
+        Verb::Upgrade => Command::Upgrade {
+            file,
+            cert: second,
+            options,
+        },
+        Verb::Horizon => Command::Horizon {
+            file,
+            steps: said.given.steps,
+            options,
+        },
+        Verb::Evaluate => Command::Evaluate {
+            file,
+            cert: second,
+            rounds: said.given.rounds,
+            sweeps: said.given.sweeps(),
+            options,
+        },
+        Verb::Bounded => Command::Bounded {
+            file,
+            upper: second,
+            options,
+        },
     }
 }
 
 /// What the words behind the command say, or the first word that can't stand.
 fn said_by(words: &[Word], verb: Verb) -> Result<Said, WordsFault>
+    requires { 0 < length words.now }
     ensures { Reads words.now verb result }
 {
     let mut said = Said::nothing();
@@ -77,7 +120,22 @@ fn said_by(words: &[Word], verb: Verb) -> Result<Said, WordsFault>
     }
 }
 
-/// The command that the words are.
+/// The command that the words are, or the first word that can't stand.
+fn command_of(words: &[Word]) -> Result<Command, WordsFault>
+    ensures command { IfOk result (IsCommand words.now) }
+    ensures usage { IfErr result (IsFault words.now) }
+{
+    let [first, ..] = words else {
+        return Err(WordsFault::Usage { word: 0 });
+    };
+    let Some(verb) = verb_named(first.as_slice()) else {
+        return Err(WordsFault::Usage { word: 0 });
+    };
+    let said = said_by(words, verb)?;
+    Ok(command_from(words, verb, &said))
+}
+
+/// The command that the words are, or the first word that can't stand.
 pub fn read_words(words: &[Word]) -> Result<Command, WordsFault>
     ensures command { IfOk result (IsCommand words.now) }
     ensures usage { IfErr result (IsFault words.now) }
@@ -88,9 +146,13 @@ pub fn read_words(words: &[Word]) -> Result<Command, WordsFault>
 
     ensures limits { IfOk result IsWithinLimits }
 {
-    let Some(verb) = verb_named(text_at(words, 0)) else {
-        return Err(WordsFault::Usage { word: 0 });
-    };
-    let said = said_by(words, verb)?;
-    Ok(command_from(words, verb, &said))
+    command_of(words)
 }
+
+/// Every list of words is one command, or is no command with one first word that can't stand, and not both.
+pub fn law_one_answer()
+    ensures some { (words : List (List ℕ)) → ((command : CommandValue) × IsCommand words command) ⊎ ((word : ℕ) × IsUsage words word) }
+    ensures one_command { (words : List (List ℕ)) (a b : CommandValue) → IsCommand words a → IsCommand words b → a ≡ b }
+    ensures one_usage { (words : List (List ℕ)) (v w : ℕ) → IsUsage words v → IsUsage words w → v ≡ w }
+    ensures not_both { (words : List (List ℕ)) (command : CommandValue) (word : ℕ) → IsCommand words command → IsUsage words word → ⊥ }
+{}

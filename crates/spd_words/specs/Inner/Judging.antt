@@ -1,5 +1,5 @@
 -- Pieces judged one after another: what they say so far, or the first that can't stand.
-use Rattle.std.specs.Prelude.{ℕ, ◌≡◌, Option, Some, if◌then◌else◌, List, [], ◌∷◌, ◌++◌, Result, Ok, Err, drop}
+use Rattle.std.specs.Prelude.{ℕ, ◌≡◌, Some, if◌then◌else◌, List, [], ◌∷◌, ◌++◌, Result, Ok, Err, drop}
 use Rattle.spd_words.specs.declared.verb.Verb.{Verb}
 use Rattle.spd_words.specs.declared.said.Said.{Said}
 use Rattle.spd_words.specs.declared.fault.WordsFault.{WordsFault}
@@ -34,17 +34,21 @@ abbrev pub judged : List (List ℕ) → Verb → List Piece → Said → Result 
 judged words verb [] said = Ok said
 judged words verb (piece ∷ pieces) said = judged_piece words verb piece said >>= judged words verb pieces
 
+-- judging stops at the word of the fault
+abbrev pub Stops : Result Said ℕ → WordsFault → Type 0
+Stops judging (Usage word) = judging ≡ Err word
+
 -- what was answered, and said then, is what judging gives
 abbrev pub Judges : {X : Type 0} → Result Said ℕ → Result X WordsFault → Said → Type 0
 Judges judging (Ok x) said = judging ≡ Ok said
-Judges judging (Err (Usage word)) said = judging ≡ Err word
+Judges judging (Err fault) said = Stops judging fault
 
 -- the option of this name can stand, or not
 abbrev pub JudgesOption : List (List ℕ) → Verb → ℕ → List ℕ → Said → Result Key WordsFault → Type 0
 JudgesOption words verb at name said (Ok key) = (key_named name ≡ Some key) × (judged_piece words verb (option at (Some key)) said ≡ Ok said)
-JudgesOption words verb at name said (Err (Usage word)) = judged_piece words verb (option at (key_named name)) said ≡ Err word
+JudgesOption words verb at name said (Err fault) = Stops (judged_piece words verb (option at (key_named name)) said) fault
 
 -- what the words behind the command say is what judging their pieces gives
 abbrev pub Reads : List (List ℕ) → Verb → Result Said WordsFault → Type 0
 Reads words verb (Ok said) = judged words verb (pieces_of (drop 1 words)) nothing_said ≡ Ok said
-Reads words verb (Err (Usage word)) = judged words verb (pieces_of (drop 1 words)) nothing_said ≡ Err word
+Reads words verb (Err fault) = Stops (judged words verb (pieces_of (drop 1 words)) nothing_said) fault

@@ -1,11 +1,12 @@
 use Rattle.std.proofs.Common.{◌≡◌, ◌∙◌, ◌++◌, ◌∷◌, ◌≤◌, [], List, length, sym, subst, arith}
+use Rattle.std.proofs.lemmas.List.{nil_from_length}
 use Rattle.spd_lex.specs.declared.token.Token.{Token}
 use Rattle.spd_syntax.specs.declared.file.Counts.{Counts}
 use Rattle.spd_syntax.specs.declared.file.Section.{Section}
 use Rattle.spd_syntax.specs.Positions.{section}
 use Rattle.spd_syntax.specs.Files.{AreSections}
 use Rattle.spd_syntax.proofs.Moves.{same_exit, fails_after}
-use Rattle.spd_syntax.proofs.FileMoves.{sections_move, sections_more, sections_lack, section_keeps, none_left}
+use Rattle.spd_syntax.proofs.FileMoves.{sections_move, sections_more, sections_lack, section_keeps}
 use Rattle.spd_syntax.proofs.reader.Reader.sections.Goals as goal
 
 pub returns-in_err-section-clause-err : goal.returns-in_err-section-clause-err
@@ -36,7 +37,7 @@ pub returns-then-not-has_all-clause-err : goal.returns-then-not-has_all-clause-e
 returns-then-not-has_all-clause-err c =
     let file = c.args.self.now.file.now in
     let none : length c.loop-rest.rest.now ≡ 0 = grind (arith, c.is_empty.ensures, c.loop-rest-test.false) in
-    sections_lack file c.args.counts c.loop-rest.seen c.loop-rest.sections c.args.tokens.now c.loop-rest.rest.now c.expected.result c.loop-rest.invariant.read (none_left c.loop-rest.rest.now none)
+    sections_lack file c.args.counts c.loop-rest.seen c.loop-rest.sections c.args.tokens.now c.loop-rest.rest.now c.expected.result c.loop-rest.invariant.read (nil_from_length c.loop-rest.rest.now none)
     (sym c.has_all.ensures ∙ c.if-not-has_all.true) c.expected.ensures
 
 pub returns-clause-ok : goal.returns-clause-ok
@@ -44,6 +45,6 @@ returns-clause-ok c =
     let file = c.args.self.now.file.now in
     let none : length c.loop-rest.rest.now ≡ 0 = grind (arith, c.is_empty.ensures, c.loop-rest-test.false) in (
       c.loop-rest.seen,
-      subst (λ (l : List Token). AreSections file c.args.counts c.loop-rest.sections c.loop-rest.seen c.args.tokens.now l) (none_left c.loop-rest.rest.now none) c.loop-rest.invariant.read,
+      subst (λ (l : List Token). AreSections file c.args.counts c.loop-rest.sections c.loop-rest.seen c.args.tokens.now l) (nil_from_length c.loop-rest.rest.now none) c.loop-rest.invariant.read,
       sym c.has_all.ensures ∙ c.if-not-has_all.false,
     )
