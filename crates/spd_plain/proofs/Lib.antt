@@ -15,6 +15,7 @@ pub mod Runs
 pub mod Shapes
 pub mod Told
 mod LimitRows
+mod RangeRows
 pub mod BitTests
 pub mod Products
 pub mod ReturnFits

@@ -179,6 +179,16 @@ fn limits(rt: HostRuntime) -> Result<(), Fail> {
             5,
             "refused at byte 84929: too many dds",
         ),
+    ];
+    for (what, file, number, message) in &cases {
+        assert_ended(&rt, what, &solve(&rt, file)?, *number, message);
+    }
+    Ok(())
+}
+
+#[test]
+fn states(rt: HostRuntime) -> Result<(), Fail> {
+    let cases = [
         ("4,096 states", doubled(&rt, 12)?, 0, ""),
         (
             "8,192 states",

@@ -1,18 +1,14 @@
 -- The grammar of words at worked rows: each command's least words, each option, each kind of fault.
-use Rattle.std.proofs.Common.{◌≡◌, ℕ, List, [], ◌∷◌, Option, Some, None, pos, inl, inr, refl}
+use Rattle.std.proofs.Common.{[], ◌∷◌, Some, None, pos, inl, inr, refl}
 use Rattle.std.specs.Prelude.{codes}
 use Rattle.spd_scaled.specs.DecimalReading.{decimal_of, sign_at, digits_at, fraction_at, exponent_at, lowest_of, without_end_zeros, scaled_of}
 use Rattle.spd_model.specs.Options.{default_options}
-use Rattle.spd_words.specs.declared.verb.Verb.{Verb}
 use Rattle.spd_words.specs.declared.verb.Verb.TheVariants as verbs
-use Rattle.spd_words.specs.declared.command.Command.{Command}
 use Rattle.spd_words.specs.declared.command.Command.TheVariants.{Solve, Ask, Check, Plain, Gen, Ring, Upgrade, Horizon, Evaluate, Bounded}
 use Rattle.spd_words.specs.Verbs.{verb_named, key_named}
 use Rattle.spd_words.specs.Values.{number_in, span_of}
-use Rattle.spd_words.specs.Pieces.{Piece, pieces_of}
-use Rattle.spd_words.specs.Standing.{AllStand}
-use Rattle.spd_words.specs.Commands.{IsCommand, IsUsage, meaning}
-use Rattle.spd_words.proofs.CallerLemmas.Grammar.{Faulty, first_from_cases}
+use Rattle.spd_words.specs.Commands.{IsCommand, IsUsage}
+use Rattle.spd_words.proofs.CallerLemmas.Grammar.{first_from_cases}
 
 -- ---- commands
 

@@ -4,7 +4,7 @@ use Rattle.std.specs.List.{list_any, enumerate_from}
 use Rattle.spd_words.specs.declared.verb.Verb.{Verb}
 use Rattle.spd_words.specs.declared.verb.Verb.TheVariants.{Solve, Ask, Check, Plain, Gen, Ring, Upgrade, Horizon, Evaluate, Bounded}
 use Rattle.spd_words.specs.declared.verb.Role.{Role}
-use Rattle.spd_words.specs.declared.verb.Role.TheVariants.{Input, Output, Size}
+use Rattle.spd_words.specs.declared.verb.Role.TheVariants.{Size}
 use Rattle.spd_words.specs.declared.given.Given.{Given}
 use Rattle.spd_words.specs.Verbs.{takes, role_of, is_role}
 use Rattle.spd_words.specs.Values.{number_in, is_value, with_value, is_given, nothing_given}
