@@ -2,7 +2,6 @@
 """Reads a model file by the grammar of docs/FORMAT.md, and says how it is refused.
 
     reference.py FILE ..      prints a line for each file: `lawful`, or the message's words, as `at byte 44: negative`
-    reference.py --table      writes the refused files of cases.py, with the messages that the program has to give, into the folder `out`
 
 It shares nothing with the program but that page. It reads a file in three passes: bytes, syntax, names. The first two stop at the first
 fault. The third lists every fault of names and answers the least one, by place and then by the refusal's number."""
@@ -407,10 +406,6 @@ def message(data):
 
 if __name__ == "__main__":
     sys.setrecursionlimit(10_000)
-    if sys.argv[1:] == ["--table"]:
-        import cases
-        cases.write()
-    else:
-        for file in sys.argv[1:]:
-            with open(file, "rb") as opened:
-                print(message(opened.read()))
+    for file in sys.argv[1:]:
+        with open(file, "rb") as opened:
+            print(message(opened.read()))

@@ -1,15 +1,15 @@
 #!/usr/bin/env python3
-"""Runs the program on the cases of cases.py and on each prefix of all.spudd, and compares what comes with the references.
+"""Runs the program on the cases of cases.py, on each prefix of all.spudd, on the refused files that docs/FORMAT.md shows and on the examples, and
+compares what comes with the references.
 
-    run.py PROGRAM        prints a line for each group of cases that is as it has to be and for each case that isn't; exits 1 where one isn't
+    run.py PROGRAM        prints a line for each case that isn't as it has to be, and how many were run; exits 1 where there is one
 
 A refused file has status 5, one line on standard error, and nothing on standard output. What has to come of a lawful file is computed
 by tests/small/reference.py. The program leaves no file behind."""
-import os, subprocess, sys, tempfile
+import importlib.util, os, re, subprocess, sys, tempfile
 
+sys.dont_write_bytecode = True
 here = os.path.dirname(os.path.abspath(__file__))
-sys.path[:0] = [here, os.path.join(here, "..", "small")]
-import importlib.util
 
 
 def load(name, file):
@@ -80,11 +80,37 @@ def run_prefixes(program, report):
     print("done    %d prefixes" % (len(whole) + 1))
 
 
+def run_page(program, report):
+    """The files that docs/FORMAT.md shows with their messages."""
+    with open(os.path.join(here, "..", "..", "docs", "FORMAT.md"), encoding="utf-8") as page:
+        shown = re.findall(r"^\| `(.*)` \| `(refused at byte .*)` \|$", page.read(), re.M)
+    for file, message in shown:
+        data = file.encode("utf-8")
+        if "refused " + str(refused.refusal(data)) != message:
+            report.failed = True
+            print("FAILED  docs/FORMAT.md: the reference refuses %s %s" % (file, refused.refusal(data)))
+        report.compare(file, program.run(data), (5, message, ""))
+    print("done    %d files of docs/FORMAT.md" % len(shown))
+
+
+def run_examples(program, report):
+    """The examples, with each command that can run them."""
+    names = sorted(os.listdir(os.path.join(here, "..", "..", "examples")))
+    for name in [name for name in names if name.endswith(".spudd")]:
+        data = small.read(os.path.join(here, "..", "..", "examples", name))
+        want = wanted(data)
+        for command in ("solve", "plain"):
+            report.compare("%s on examples/%s" % (command, name), program.run(data, (), command), want)
+    print("done    the examples")
+
+
 def main():
     sys.setrecursionlimit(10_000)
     program, report = Program(sys.argv[1]), Report()
     run_cases(program, report)
     run_prefixes(program, report)
+    run_page(program, report)
+    run_examples(program, report)
     sys.exit(1 if report.failed else 0)
 
 

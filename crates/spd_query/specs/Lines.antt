@@ -1,12 +1,10 @@
 -- What a client's line asks for, or why it is refused.
-use Rattle.std.specs.Prelude.{ℕ, Bool, true, false, not, ◌==◌, ◌&&◌, ◌||◌, nat_le, nat_lt, List, [], ◌∷◌, length, map, filter, position, replicate, slice_set, slice_get, codes, bytes_eq, is_none, Option, None, Some, Result, Ok, Err, option_map, if◌then◌else◌}
+use Rattle.std.specs.Prelude.{ℕ, Bool, true, false, not, ◌==◌, ◌&&◌, ◌||◌, nat_le, nat_lt, List, [], ◌∷◌, length, filter, position, replicate, slice_set, slice_get, codes, bytes_eq, is_none, Option, None, Some, Result, Ok, Err, option_map, if◌then◌else◌}
 use Rattle.std.specs.List.{list_any, list_all, slice_split, before_first, after_first}
 use Rattle.spd_model.specs.declared.process.Var.{Var}
-use Rattle.spd_model.specs.Process.{Process}
 use Rattle.spd_query.specs.declared.line.Query.{Query}
 use Rattle.spd_query.specs.declared.line.Query.TheVariants.{State, Status}
 use Rattle.spd_query.specs.declared.line.Reason.{Reason}
-use Rattle.spd_query.specs.declared.line.Reason.TheVariants as Reason
 
 -- space, tab and CR part words
 abbrev pub is_blank : ℕ → Bool

@@ -4,11 +4,12 @@
 //! taking no memory. The work is proportional to the line and the depth of the two diagrams.
 #![tactic(auto)]
 
-
+mod answering;
 mod line;
-
-
-
+mod names;
+mod pair;
+mod read;
+mod text;
 mod words;
 
-
+pub use answering::answer;

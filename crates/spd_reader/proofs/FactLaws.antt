@@ -2,11 +2,11 @@
 use Rattle.std.proofs.Common.{◌≡◌, ℕ, zero, suc, ◌+◌, ◌<◌, ◌≤◌, Bool, true, false, cond, List, [], ◌∷◌, ◌++◌, length, flat_map, fold, get_or, take, Option, Some, None, refl, sym, ap, ◌∙◌, subst, arith, append-nil, min, max, pos, length-append}
 use Rattle.std.specs.Prelude.{◌||◌, not, nat_le, nat_lt, ◌==◌, ◌%◌, int_lt, unsigned_abs, if◌then◌else◌, ℤ, map}
 use Rattle.std.specs.List.{list_any}
-use Rattle.std.proofs.lemmas.List.{append_assoc, get_or-map, get_or_past, length-map, take_all}
+use Rattle.std.proofs.lemmas.List.{append_assoc, get_or-map, get_or_past, length-map, map_push, take_all}
 use Rattle.std.proofs.lemmas.List.Folds.{list_any-append}
 use Rattle.std.proofs.lemmas.Bool.Decides.{nat_tests}
 use Rattle.spd_model.specs.declared.tree.Tree.{Tree, Leaf, Named, Branch, Branch', Row_of-Tree, end_of-Tree, more_of-Tree}
-use Rattle.spd_model.specs.Trees.{Part, number, choice, missing, parts, nesting, read_tree, read_kids, read_diagrams}
+use Rattle.spd_model.specs.Trees.{Reading, Part, number, choice, missing, parts, nesting, read_tree, read_kids, read_diagrams}
 use Rattle.spd_model.proofs.CallerLemmas.Trees.{length-read_diagrams, read_tree-Branch}
 use Rattle.spd_reader.specs.declared.dd.Dd.{Dd}
 use Rattle.spd_reader.specs.declared.facts.Facts.{Facts}
@@ -133,6 +133,27 @@ pub facts_past : (dds : List Dd) (d : ℕ) → length dds ≤ d → facts_in dds
     → no_facts ≡ facts_of (get_or (read_diagrams parts [] (trees_in dds)) d []) (get_or (read_diagrams nesting [] (trees_in dds)) d 0)
 facts_past dds d past known =
     sym (get_or_past (facts_in dds) d no_facts (omega (arith, past, length-map dds (λ (y : Dd). y.facts)))) ∙ ap (λ (fs : List Facts). get_or fs d no_facts) known ∙ dd_facts (trees_in dds) d
+
+read_diagrams-append : {X : Type 0} (way : Reading X) (before : List X) (dds : List Tree) (dd : Tree)
+    → read_diagrams way before (dds ++ dd ∷ []) ≡ read_diagrams way before dds ++ read_tree way (read_diagrams way before dds) dd ∷ []
+read_diagrams-append way before [] dd = refl
+read_diagrams-append way before (first ∷ dds) dd = read_diagrams-append way (before ++ read_tree way before first ∷ []) dds dd
+
+-- one decision diagram more
+known_more : (dds more : List Dd) (dd : Dd) → more ≡ dds ++ dd ∷ [] → dd.facts ≡ read_tree facts (facts_in dds) dd.tree
+    → facts_in dds ≡ read_diagrams facts [] (trees_in dds) → facts_in more ≡ read_diagrams facts [] (trees_in more)
+known_more dds more dd is read known =
+    ap facts_in is ∙ map_push (λ (x : Dd). x.facts) dds dd
+    ∙ ap (λ (f : Facts). facts_in dds ++ f ∷ []) (read ∙ ap (λ (fs : List Facts). read_tree facts fs dd.tree) known)
+    ∙ ap (λ (fs : List Facts). fs ++ read_tree facts (read_diagrams facts [] (trees_in dds)) dd.tree ∷ []) known
+    ∙ sym (read_diagrams-append facts [] (trees_in dds) dd.tree)
+    ∙ ap (read_diagrams facts []) (sym (ap trees_in is ∙ map_push (λ (x : Dd). x.tree) dds dd))
+
+-- the same where it was added as far as there was memory
+pub known_after : (b : Bool) (dds more : List Dd) (dd : Dd) → more ≡ (if b then dds ++ dd ∷ [] else dds) → dd.facts ≡ read_tree facts (facts_in dds) dd.tree
+    → facts_in dds ≡ read_diagrams facts [] (trees_in dds) → facts_in more ≡ read_diagrams facts [] (trees_in more)
+known_after true dds more dd is read known = known_more dds more dd is read known
+known_after false dds more dd is read known = subst (λ (l : List Dd). facts_in l ≡ read_diagrams facts [] (trees_in l)) (sym is) known
 
 -- the facts of a choice, after those of its subtrees
 pub branch_facts : (fs : List Facts) (tree : Tree) (var : ℕ) (primed : Bool) (kids items : List Tree) (first all : Facts) (i : ℕ) → tree ≡ Branch var primed kids → items ≡ kids → first ≡ of_branch var primed → length items ≤ i

@@ -1,6 +1,8 @@
 -- An action without a fault of its names is one of a lawful model.
-use Rattle.std.proofs.Common.{◌≡◌, ℕ, zero, suc, ◌+◌, ◌<◌, ◌≤◌, List, [], ◌∷◌, length, get_or, set, Option, Some, None, refl, sym, ap, subst, ◌∙◌, arith, inl, inr, pos}
-use Rattle.std.specs.Prelude.{IfSome, is_some, unwrap_or, slice_index_or}
+use Rattle.std.proofs.Common.{◌≡◌, ℕ, zero, suc, ◌+◌, ◌<◌, ◌≤◌, Bool, true, false, cond, List, [], ◌∷◌, length, get_or, set, Option, Some, None, refl, sym, ap, subst, ◌∙◌, arith, inl, inr, pos}
+use Rattle.std.specs.Prelude.{IfSome, is_some, is_none, unwrap_or, slice_index_or, position, nat_lt}
+use Rattle.std.specs.List.{position_or_len}
+use Rattle.std.proofs.lemmas.Bool.Decides.{nat_tests}
 use Rattle.std.proofs.lemmas.Bool.{cases_eq}
 use Rattle.std.proofs.Common.{get_or-set_same, get_or-set_other}
 use Rattle.std.proofs.lemmas.List.{length-map, length-set, length-replicate, get_or-map}
@@ -19,7 +21,7 @@ use Rattle.spd_syntax.specs.Words.{text_of}
 use Rattle.spd_syntax.specs.Files.{Each, AName, AnItem, AreItems}
 use Rattle.spd_reader.specs.declared.purpose.Purpose.TheVariants.{Table}
 use Rattle.spd_reader.specs.Faults.{when}
-use Rattle.spd_reader.specs.Models.{Items, no_items, with_item, item_faults, items_of, items_faults, missing_faults, action_of, action_faults}
+use Rattle.spd_reader.specs.Models.{Filled, no_items, with_item, item_faults, items_of, items_faults, missing_faults, action_of, action_faults}
 use Rattle.spd_reader.specs.Trees.{Scope, var_number, put, trees_of, place_faults, meaning, tree_faults}
 use Rattle.spd_reader.proofs.LawfulDiagrams.{serves-table, table-tree, part-good}
 use Rattle.spd_reader.proofs.LawfulLists.{none-append}
@@ -27,12 +29,24 @@ use Rattle.spd_reader.proofs.LawfulNames.{name-passed}
 use Rattle.spd_reader.proofs.LawfulTokens.{first-shorter, item-length}
 use Rattle.spd_reader.proofs.LawfulTrees.{Reads, tree-good}
 
+-- where no place is without a tree, each has one
+no-gap : (places : List (Option Tree)) → length places ≤ position_or_len is_none places → (i : ℕ) → i < length places → (tree : Tree) × (get_or places i None ≡ Some tree)
+no-gap [] h i near = absurd (omega arith)
+no-gap (None ∷ places) h i near = absurd (omega arith)
+no-gap (Some t ∷ places) h zero near = (t, refl)
+no-gap (Some t ∷ places) h (suc i) near = no-gap places (omega arith) i (omega arith)
+
 -- each variable has a table where none is missing
-missing-none : (at v : ℕ) (places : List (Option Tree)) → missing_faults at v places ≡ [] → (i : ℕ) → i < length places → (tree : Tree) × (get_or places i None ≡ Some tree)
-missing-none at v [] h i near = absurd (omega arith)
-missing-none at v (None ∷ places) h i near = absurd (cc h)
-missing-none at v (Some t ∷ places) h zero near = (t, refl)
-missing-none at v (Some t ∷ places) h (suc i) near = missing-none at (v + 1) places h i (omega arith)
+missing-none : (at : ℕ) (places : List (Option Tree)) → missing_faults at (position is_none places) ≡ [] → (i : ℕ) → i < length places → (tree : Tree) × (get_or places i None ≡ Some tree)
+missing-none at places h = no-gap places (past (nat_lt (position_or_len is_none places) (length places)) refl (unmissed (position is_none places) h))
+  where
+    past : (b : Bool) → nat_lt (position_or_len is_none places) (length places) ≡ b → cond b (Some (position_or_len is_none places)) None ≡ None → length places ≤ position_or_len is_none places
+    past true t h = absurd (cc)
+    past false t h = grind (arith, nat_tests)
+
+    unmissed : (o : Option ℕ) → missing_faults at o ≡ [] → o ≡ None
+    unmissed None h = refl
+    unmissed (Some v) h = absurd (cc)
 
 module _ (file : List ℕ) (m : Process) (s : Scope) (r : Reads m s (read_diagrams parts [] m.dds) (read_diagrams nesting [] m.dds)) where
   -- what stands in a variable's place is a table of it
@@ -41,7 +55,7 @@ module _ (file : List ℕ) (m : Process) (s : Scope) (r : Reads m s (read_diagra
   IsPlace i (Some tree) = IsTable m i tree
 
   -- what the items before a place said
-  record KeptItems (t : Items) : Type 0 where
+  record KeptItems (t : Filled) : Type 0 where
     count : length t.tables ≡ length m.vars
     tables : (i : ℕ) → i < length t.tables → IsPlace i (get_or t.tables i None)
     cost : IfSome t.cost (AreRewards m)
@@ -57,7 +71,7 @@ module _ (file : List ℕ) (m : Process) (s : Scope) (r : Reads m s (read_diagra
       none-at i near = All-replicate (λ (o : Option Tree). o ≡ None) (length s.vars) None refl i None near
 
   -- a table in the place of its variable
-  put-kept : (t : Items) (at : ℕ) (o : Option ℕ) (name : List ℕ) (tree : Tree) → var_number s name ≡ o → place_faults t.tables at o ≡ [] → IsTable m (unwrap_or o 0) tree → KeptItems t → KeptItems (record t { tables = put t.tables o tree })
+  put-kept : (t : Filled) (at : ℕ) (o : Option ℕ) (name : List ℕ) (tree : Tree) → var_number s name ≡ o → place_faults t.tables at o ≡ [] → IsTable m (unwrap_or o 0) tree → KeptItems t → KeptItems (record t { tables = put t.tables o tree })
   put-kept t at None name tree e none table k = absurd (cc none)
   put-kept t at (Some v) name tree e none table k = record {
     count = length-set t.tables v (Some tree) ∙ k.count;
@@ -71,7 +85,7 @@ module _ (file : List ℕ) (m : Process) (s : Scope) (r : Reads m s (read_diagra
       there : (i : ℕ) → i < length (set t.tables v (Some tree)) → i ≡ v → v < length t.tables
       there i near same = omega (arith, length-set t.tables v (Some tree))
 
-  item-kept : (t : Items) (item : Item) (a e : List Token) → length a ≤ 4194304 → AnItem file item a e → item_faults file s t item ≡ [] → KeptItems t → KeptItems (with_item file s t item)
+  item-kept : (t : Filled) (item : Item) (a e : List Token) → length a ≤ 4194304 → AnItem file item a e → item_faults file s t item ≡ [] → KeptItems t → KeptItems (with_item file s t item)
   item-kept t (items.Table w tree) a e b h none k =
       let o = var_number s (text_of file w) in
       let q = none-append (place_faults t.tables w.from o) (tree_faults file s (Table (unwrap_or o 0)) 300 tree) none in
@@ -81,7 +95,7 @@ module _ (file : List ℕ) (m : Process) (s : Scope) (r : Reads m s (read_diagra
       let q = none-append (when (is_some t.cost) (refusals.Twice w.from)) _ none in
       record { count = k.count; tables = k.tables; cost = part-good file m s r trees h.0 e (omega (arith, first-shorter w a h.0 h.1)) h.3 q.1 }
 
-  items-kept : (t : Items) (its : List Item) (a e : List Token) → length a ≤ 4194304 → Each (AnItem file) its a e → items_faults file s t its ≡ [] → KeptItems t → KeptItems (items_of file s t its)
+  items-kept : (t : Filled) (its : List Item) (a e : List Token) → length a ≤ 4194304 → Each (AnItem file) its a e → items_faults file s t its ≡ [] → KeptItems t → KeptItems (items_of file s t its)
   items-kept t [] a e b h none k = k
   items-kept t (item ∷ its) a e b h none k =
       let q = none-append (item_faults file s t item) (items_faults file s (with_item file s t item) its) none in
@@ -95,16 +109,16 @@ module _ (file : List ℕ) (m : Process) (s : Scope) (r : Reads m s (read_diagra
   pub action-good : (w : Word) (its : List Item) (end : Word) (a b e : List Token) → length b ≤ 4194304 → AName file w a b → AreItems file its end b e → action_faults file s its end ≡ [] → IsAction m (action_of file s w its)
   action-good w its end a b e short name h none =
       let t = items_of file s (no_items s) its in
-      let q = none-append (items_faults file s (no_items s) its) (missing_faults end.from 0 t.tables) none in
+      let q = none-append (items_faults file s (no_items s) its) (missing_faults end.from (position is_none t.tables)) none in
       let k : KeptItems t = items-kept (no_items s) its b h.b short h.items q.0 none-kept in
       record {
         named = name-passed _ w.from (text_of file w) name.name.is;
         one_each = length-map t.tables (λ (place : Option Tree). unwrap_or place (Leaf (pos 0))) ∙ k.count;
-        tables = λ i tree near. stands t k i tree (omega (arith, near, k.count)) (missing-none end.from 0 t.tables q.1 i (omega (arith, near, k.count)));
+        tables = λ i tree near. stands t k i tree (omega (arith, near, k.count)) (missing-none end.from t.tables q.1 i (omega (arith, near, k.count)));
         cost = cost-good t.cost k.cost;
       }
     where
-      stands : (t : Items) → KeptItems t → (i : ℕ) (other : Tree) → i < length t.tables → ((tree : Tree) × (get_or t.tables i None ≡ Some tree)) → IsTable m i (slice_index_or (trees_of t.tables) i other)
+      stands : (t : Filled) → KeptItems t → (i : ℕ) (other : Tree) → i < length t.tables → ((tree : Tree) × (get_or t.tables i None ≡ Some tree)) → IsTable m i (slice_index_or (trees_of t.tables) i other)
       stands t k i other near found =
           subst (IsTable m i) (sym (get_or-map (λ (place : Option Tree). unwrap_or place (Leaf (pos 0))) t.tables i None other near ∙ ap (λ (place : Option Tree). unwrap_or place (Leaf (pos 0))) found.1))
           (subst (IsPlace i) found.1 (k.tables i near))

@@ -1,3 +1,4 @@
+mod Rows
 pub mod IndexViews
 pub mod LeastLaws
 pub mod FactLaws
@@ -13,4 +14,6 @@ pub mod LawfulActions
 pub mod LawfulVariables
 pub mod LawfulSections
 pub mod Lawful
+pub mod VariableLaws
+pub mod ActionLaws
 pub mod CallerLemmas

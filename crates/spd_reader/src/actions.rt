@@ -16,7 +16,7 @@ use sqlite_items::Items;
 use std::alloc::AllocError;
 
 /// How deep a tree may nest.
-const MOST_NESTING: u32 = 300;
+pub(crate) const MOST_NESTING: u32 = 300;
 
 /// Notes the first variable without a table.
 #[tactic(auto, unfolding(crate::specs::Faults::least))]

@@ -1,18 +1,22 @@
 //! What names stand for where a tree stands.
 
-ghost use Rattle.std.specs.Prelude.{◌≡◌, ◌<◌, ◌≤◌, length, map, slice_index_or};
+ghost use Rattle.std.specs.Prelude.{◌≡◌, ◌<◌, ◌≤◌, length, map, slice_index_or, OnOk};
 ghost use Rattle.spd_syntax.specs.Words.{text_of};
 ghost use Rattle.spd_reader.specs.declared.dd.Dd.{Dd as DdValue};
 ghost use Rattle.spd_reader.specs.Faults.{least};
 ghost use Rattle.spd_reader.specs.Trees.{number_in, var_number, values_of, dd_parts, dd_nesting, name_faults, use_faults};
 ghost use Rattle.spd_reader.specs.Facts.{facts_of, no_facts};
+ghost use Rattle.spd_reader.specs.Models.{with_dd};
 ghost use Rattle.spd_reader.specs.Scopes.{scope_of};
 
+use crate::dd::Dd;
 use crate::facts::Facts;
 use crate::faults::{note, note_if};
 use crate::names::Names;
 use crate::purpose::Purpose;
+use spd_model::Tree;
 use spd_syntax::{Refusal, What, Word};
+use std::alloc::AllocError;
 
 /// The bytes of a word, as far as the file has them.
 pub(crate) fn text_of<'f>(file: &'f [u8], word: Word) -> &'f [u8]
@@ -101,5 +105,19 @@ impl<'f> Names<'f> {
                 note_if(found, depth < facts.nesting, Refusal::TooMany { at, what });
             }
         }
+    }
+
+    /// Declares a decision diagram, which counts once.
+    pub(crate) fn declare(&mut self, name: &'f [u8], tree: Tree) -> Result<(), AllocError>
+        ensures file { self.new.file.now ≡ self.old.file.now }
+        ensures means { OnOk result (scope_of self.new ≡ with_dd (scope_of self.old) name.now tree) }
+    {
+        if self.dd_index.contains(name) {
+            return Ok(());
+        }
+        let facts = self.facts(&tree);
+        self.dd_index.declare(name)?;
+        self.dds.push(Dd { tree, facts })?;
+        Ok(())
     }
 }

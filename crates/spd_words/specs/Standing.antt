@@ -50,9 +50,8 @@ is_name words verb operands role text = not (length text == 0) && not (repeats w
 -- a text can stand in this role behind these operands
 abbrev pub fits : List (List ℕ) → Verb → List ℕ → Option Role → List ℕ → Bool
 fits words verb operands None text = false
-fits words verb operands (Some Input) text = is_name words verb operands Input text
-fits words verb operands (Some Output) text = is_name words verb operands Output text
 fits words verb operands (Some Size) text = is_some (number_in 2 63 text)
+fits words verb operands (Some role) text = is_name words verb operands role text
 
 -- no operand is missing; `ask` with the standard input as its file and no pair would read the same input twice
 abbrev pub are_all : List (List ℕ) → Verb → List ℕ → Bool

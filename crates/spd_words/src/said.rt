@@ -37,10 +37,8 @@ fn fits(words: &[Word], verb: Verb, operands: &[usize], role: Option<Role>, text
 {
     match role {
         None => false,
-        Some(Role::Input) => !text.is_empty() && !repeats(words, verb, operands, Role::Input, text),
-        Some(Role::Output) => !text.is_empty()
-            && !repeats(words, verb, operands, Role::Output, text),
         Some(Role::Size) => number_in(2, 63, text).is_some(),
+        Some(role) => !text.is_empty() && !repeats(words, verb, operands, role, text),
     }
 }
 

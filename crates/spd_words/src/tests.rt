@@ -134,8 +134,14 @@ fn words_are_read(rt: HostRuntime) -> Result<(), Fail> {
             ("ring 2 --workers=2", "ring 2, 2 262144 10000 0 65536"),
             ("upgrade m c", "upgrade 1 2, 1 262144 10000 0 65536"),
             ("horizon m", "horizon 1 None, 1 262144 10000 0 65536"),
-            ("horizon m --steps 1000", "horizon 1 Some(1000), 1 262144 10000 0 65536"),
-            ("evaluate m c", "evaluate 1 2 None 10, 1 262144 10000 0 65536"),
+            (
+                "horizon m --steps 1000",
+                "horizon 1 Some(1000), 1 262144 10000 0 65536",
+            ),
+            (
+                "evaluate m c",
+                "evaluate 1 2 None 10, 1 262144 10000 0 65536",
+            ),
             (
                 "evaluate m c --rounds=0 --sweeps 1000",
                 "evaluate 1 2 Some(0) 1000, 1 262144 10000 0 65536",
@@ -192,5 +198,28 @@ fn first_faults_are_told(rt: HostRuntime) -> Result<(), Fail> {
             ("bounded u u", "usage 2"),
         ],
     )?;
+    Ok(())
+}
+
+/// `ask m` and so many pairs of files.
+fn ask_line(alloc: Global, pairs: u32) -> Result<String, AllocError> {
+    let mut line = String::from_str(alloc, "ask m")?;
+    for pair in 0..pairs {
+        write!(line, " q{pair} a{pair}")?;
+    }
+    Ok(line)
+}
+
+#[test]
+fn at_most_64_pairs_stand(rt: HostRuntime) -> Result<(), Fail> {
+    let alloc = rt.alloc();
+    let words = words_of(alloc, ask_line(alloc, 64)?.as_str())?;
+    let count = match read_words(&words) {
+        Ok(Command::Ask { pairs, .. }) => pairs.as_slice().len(),
+        _ => 0,
+    };
+    assert_eq!(rt; count, 64);
+    let answered = answer(alloc, ask_line(alloc, 65)?.as_str())?;
+    assert_eq!(rt; answered.as_str(), "usage 130");
     Ok(())
 }

@@ -6,8 +6,6 @@ use Rattle.spd_model.specs.Trees.{value_of}
 use Rattle.spd_model.specs.Numbers.{numbers_below}
 use Rattle.spd_model.specs.States.{sizes, states, state_count, IsState}
 use Rattle.spd_model.specs.Chances.{sizes_after, probability}
-use Rattle.spd_plain.specs.declared.chances.Chances.{Chances}
-use Rattle.spd_plain.specs.declared.chances.Chances.TheVariants.{Kept, Steady, Read}
 
 -- The probability, after action a at s, of the first of the values `next`, which are those of the variable i and of those after it:
 -- `probability m a s i v rest` where `next` is `v ∷ rest`.
@@ -28,9 +26,3 @@ pub record TellsChances (m : Process) (a : Action) (s : List ℕ) (i : ℕ) (cha
 pub record HoldFor (m : Process) (a : Action) (s : List ℕ) (i : ℕ) (kept : List ℤ) : Type 0 where
   pub count : length kept ≡ slice_index (sizes m) i
   pub each : (v : ℕ) (rest : List ℕ) → v < slice_index (sizes m) i → IsState (sizes_after m i) rest → slice_index_or kept v (pos 0) ≡ probability m a s i v rest
-
--- what is known of the probabilities holds: what is kept, and what is read where the variables after i have their first values
-abbrev pub IsKnown : Process → Action → List ℕ → ℕ → Chances → Type 0
-IsKnown m a s i (Kept kept) = HoldFor m a s i kept
-IsKnown m a s i Steady = HoldFor m a s i (values_of m a s i)
-IsKnown m a s i Read = Unit {0}

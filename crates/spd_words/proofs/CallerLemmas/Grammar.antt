@@ -43,8 +43,13 @@ parted_later : (words : List (List ℕ)) (verb : Verb) (before : List Piece) (p 
     → stands words verb before p ≡ true → Parted words verb (before ++ p ∷ []) ps word → Parted words verb before (p ∷ ps) word
 parted_later words verb before p ps word e h =
     record {
-      front = p ∷ h.front; faulty = h.faulty; back = h.back; whole = ap (λ (qs : List Piece). p ∷ qs) h.whole; stand = (e, h.stand);
-      fault = ap (λ (b : List Piece). stands words verb b h.faulty) (sym (append_assoc before (p ∷ []) h.front)) ∙ h.fault; place = h.place;
+      front = p ∷ h.front;
+      faulty = h.faulty;
+      back = h.back;
+      whole = ap (λ (qs : List Piece). p ∷ qs) h.whole;
+      stand = (e, h.stand);
+      fault = ap (λ (b : List Piece). stands words verb b h.faulty) (sym (append_assoc before (p ∷ []) h.front)) ∙ h.fault;
+      place = h.place;
     }
 
 parted_step : (words : List (List ℕ)) (verb : Verb) (before : List Piece) (p : Piece) (ps : List Piece) (word : ℕ) (b : Bool)

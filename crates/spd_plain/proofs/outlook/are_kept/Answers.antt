@@ -1,4 +1,4 @@
-use Rattle.std.proofs.Common.{◌≡◌, ◌∙◌, ℕ, ◌*◌, nat_le, length, ap}
+use Rattle.std.proofs.Common.{◌≡◌, ◌∙◌, ◌*◌, nat_le, length, ap}
 use Rattle.spd_model.specs.Process.{Process}
 use Rattle.spd_model.specs.States.{sizes, state_count}
 use Rattle.spd_model.proofs.CallerLemmas.StateOrder.{length-states}
