@@ -17,3 +17,4 @@ pub mod Lawful
 pub mod VariableLaws
 pub mod ActionLaws
 pub mod CallerLemmas
+pub mod SectionLaws

@@ -25,13 +25,23 @@ fn note_missing(found: &mut Option<Refusal>, at: usize, gap: Option<usize>)
     ensures { found.new ≡ least found.old (missing_faults at gap) }
 {
     if let Some(var) = gap {
-        note(found, Refusal::MissingVariable { at, var: var as u32 });
+        note(
+            found,
+            Refusal::MissingVariable {
+                at,
+                var: var as u32,
+            },
+        );
     }
 }
 
 impl Names<'_> {
     /// The parts of a reward or of a cost.
-    pub(crate) fn amounts(&self, trees: &[Shape], found: &mut Option<Refusal>) -> Result<Items<Tree>, AllocError>
+    pub(crate) fn amounts(
+        &self,
+        trees: &[Shape],
+        found: &mut Option<Refusal>,
+    ) -> Result<Items<Tree>, AllocError>
         ensures means { IfOk result (λ amounts. amounts ≡ amounts_of self.now.file.now (scope_of self.now) trees.now) }
         ensures notes { OnOk result (found.new ≡ least found.old (amounts_faults self.now.file.now (scope_of self.now) trees.now)) }
     {
@@ -44,7 +54,12 @@ impl Names<'_> {
     }
 
     /// Puts an item of an action in its place.
-    fn item(&self, item: &Item, filled: &mut Tables, found: &mut Option<Refusal>) -> Result<(), AllocError>
+    fn item(
+        &self,
+        item: &Item,
+        filled: &mut Tables,
+        found: &mut Option<Refusal>,
+    ) -> Result<(), AllocError>
         ensures means { OnOk result (filled_of filled.new ≡ with_item self.now.file.now (scope_of self.now) (filled_of filled.old) item.now) }
         ensures notes { OnOk result (found.new ≡ least found.old (item_faults self.now.file.now (scope_of self.now) (filled_of filled.old) item.now)) }
     {
@@ -58,7 +73,13 @@ impl Names<'_> {
             }
             Item::Cost { word, parts } => {
                 let twice = filled.cost.is_some();
-                note_if(found, twice, Refusal::Twice { at: word.from as usize });
+                note_if(
+                    found,
+                    twice,
+                    Refusal::Twice {
+                        at: word.from as usize,
+                    },
+                );
                 filled.cost = Some(self.amounts(parts.as_slice(), found)?);
             }
         }
@@ -83,7 +104,13 @@ impl Names<'_> {
     }
 
     /// An action, whose `endaction` is the word at its end.
-    pub(crate) fn action(&self, name: Word, items: &[Item], end: Word, found: &mut Option<Refusal>) -> Result<Action, AllocError>
+    pub(crate) fn action(
+        &self,
+        name: Word,
+        items: &[Item],
+        end: Word,
+        found: &mut Option<Refusal>,
+    ) -> Result<Action, AllocError>
         ensures means { IfOk result (λ action. action ≡ action_of self.now.file.now (scope_of self.now) name items.now) }
         ensures notes { OnOk result (found.new ≡ least found.old (action_faults self.now.file.now (scope_of self.now) items.now end)) }
     {

@@ -30,12 +30,22 @@ pub(crate) fn text_of<'f>(file: &'f [u8], word: Word) -> &'f [u8]
 
 /// Notes the faults of the name of a choice.
 #[tactic(auto, unfolding(crate::specs::Faults::least))]
-pub(crate) fn note_name(found: &mut Option<Refusal>, purpose: Purpose, primed: bool, at: usize, var: Option<u32>)
+pub(crate) fn note_name(
+    found: &mut Option<Refusal>,
+    purpose: Purpose,
+    primed: bool,
+    at: usize,
+    var: Option<u32>,
+)
     ensures { found.new ≡ least found.old (name_faults purpose primed at var) }
 {
     match var {
         None => note(found, Refusal::Unknown { at }),
-        Some(var) => note_if(found, primed && !purpose.may_prime(var), Refusal::Primed { at }),
+        Some(var) => note_if(
+            found,
+            primed && !purpose.may_prime(var),
+            Refusal::Primed { at },
+        ),
     }
 }
 
@@ -90,7 +100,14 @@ impl<'f> Names<'f> {
     }
 
     /// Notes the faults of a use of a decision diagram where a tree may nest `depth` deep.
-    pub(crate) fn note_use(&self, found: &mut Option<Refusal>, purpose: Purpose, depth: u32, at: usize, dd: Option<u32>)
+    pub(crate) fn note_use(
+        &self,
+        found: &mut Option<Refusal>,
+        purpose: Purpose,
+        depth: u32,
+        at: usize,
+        dd: Option<u32>,
+    )
         requires { depth ≤ 300 }
         ensures { found.new ≡ least found.old (use_faults (scope_of self.now) purpose depth at dd) }
     {
@@ -99,7 +116,11 @@ impl<'f> Names<'f> {
             Some(dd) => {
                 let facts = self.facts_of(dd);
                 note_if(found, facts.primes_wrong(purpose), Refusal::Primed { at });
-                note_if(found, facts.negative_wrong(purpose), Refusal::Negative { at });
+                note_if(
+                    found,
+                    facts.negative_wrong(purpose),
+                    Refusal::Negative { at },
+                );
                 note_if(found, facts.fine_wrong(purpose), Refusal::TooFine { at });
                 let what = What::Nesting;
                 note_if(found, depth < facts.nesting, Refusal::TooMany { at, what });

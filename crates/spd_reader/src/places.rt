@@ -43,7 +43,12 @@ fn stands(places: &[Option<Tree>], at: u32) -> bool
 
 /// Notes the fault of a name for whose place a tree follows.
 #[tactic(auto, unfolding(crate::specs::Faults::least))]
-pub(crate) fn note_place(found: &mut Option<Refusal>, places: &[Option<Tree>], at: usize, place: Option<u32>)
+pub(crate) fn note_place(
+    found: &mut Option<Refusal>,
+    places: &[Option<Tree>],
+    at: usize,
+    place: Option<u32>,
+)
     ensures { found.new ≡ least found.old (place_faults places.now at place) }
 {
     match place {

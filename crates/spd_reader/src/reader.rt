@@ -14,7 +14,11 @@ use spd_syntax::{File, Refusal, Unread, read_syntax};
 use std::alloc::{AllocError, Global};
 
 /// What a file says, and the least fault of its names, where they have one.
-fn names_of<'f>(alloc: Global, bytes: &'f [u8], file: &File) -> Result<(Said<'f>, Option<Refusal>), AllocError>
+fn names_of<'f>(
+    alloc: Global,
+    bytes: &'f [u8],
+    file: &File,
+) -> Result<(Said<'f>, Option<Refusal>), AllocError>
     ensures means { IfOk result (λ x. said_by x.0 ≡ said_of bytes.now file.now) }
     ensures notes { IfOk result (λ x. x.1 ≡ least None (faults_of bytes.now file.now)) }
 {

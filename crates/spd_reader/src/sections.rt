@@ -54,7 +54,12 @@ fn steps(horizon: Option<i128>) -> Option<u32>
 
 impl Said<'_> {
     /// A decision diagram.
-    fn dd(&mut self, name: Word, shape: &Shape, found: &mut Option<Refusal>) -> Result<(), AllocError>
+    fn dd(
+        &mut self,
+        name: Word,
+        shape: &Shape,
+        found: &mut Option<Refusal>,
+    ) -> Result<(), AllocError>
         requires { self.old.action_index ≡ action_names self.old.actions }
         ensures kept { OnOk result (KeepsFile self.old self.new) }
         ensures means { OnOk result (said_by self.new ≡ with_section self.old.names.file.now (said_by self.old) (Section.Dd name shape.now)) }
@@ -62,14 +67,28 @@ impl Said<'_> {
     {
         let text = self.names.text(name);
         let twice = self.names.dd_index.contains(text);
-        note_if(found, twice, Refusal::Twice { at: name.from as usize });
-        let tree = self.names.tree(Purpose::Diagram, MOST_NESTING, shape, found)?;
+        note_if(
+            found,
+            twice,
+            Refusal::Twice {
+                at: name.from as usize,
+            },
+        );
+        let tree = self
+            .names
+            .tree(Purpose::Diagram, MOST_NESTING, shape, found)?;
         self.names.declare(text, tree)?;
         Ok(())
     }
 
     /// An action, whose `endaction` is the word at its end.
-    fn action(&mut self, name: Word, items: &[Item], end: Word, found: &mut Option<Refusal>) -> Result<(), AllocError>
+    fn action(
+        &mut self,
+        name: Word,
+        items: &[Item],
+        end: Word,
+        found: &mut Option<Refusal>,
+    ) -> Result<(), AllocError>
         requires { self.old.action_index ≡ action_names self.old.actions }
         ensures kept { OnOk result (KeepsFile self.old self.new) }
         ensures means { OnOk result (said_by self.new ≡ with_section self.old.names.file.now (said_by self.old) (Section.Action name items.now end)) }
@@ -77,7 +96,13 @@ impl Said<'_> {
     {
         let text = self.names.text(name);
         let twice = self.action_index.contains(text);
-        note_if(found, twice, Refusal::Twice { at: name.from as usize });
+        note_if(
+            found,
+            twice,
+            Refusal::Twice {
+                at: name.from as usize,
+            },
+        );
         let action = self.names.action(name, items, end, found)?;
         if !twice {
             self.action_index.declare(text)?;
@@ -87,14 +112,25 @@ impl Said<'_> {
     }
 
     /// A reward.
-    fn reward(&mut self, word: Word, parts: &[Shape], found: &mut Option<Refusal>) -> Result<(), AllocError>
+    fn reward(
+        &mut self,
+        word: Word,
+        parts: &[Shape],
+        found: &mut Option<Refusal>,
+    ) -> Result<(), AllocError>
         requires { self.old.action_index ≡ action_names self.old.actions }
         ensures kept { OnOk result (KeepsFile self.old self.new) }
         ensures means { OnOk result (said_by self.new ≡ with_section self.old.names.file.now (said_by self.old) (Section.Reward word parts.now)) }
         ensures notes { OnOk result (found.new ≡ least found.old (section_faults self.old.names.file.now (said_by self.old) (Section.Reward word parts.now))) }
     {
         let twice = self.reward.is_some();
-        note_if(found, twice, Refusal::Twice { at: word.from as usize });
+        note_if(
+            found,
+            twice,
+            Refusal::Twice {
+                at: word.from as usize,
+            },
+        );
         self.reward = Some(self.names.amounts(parts, found)?);
         Ok(())
     }
@@ -129,7 +165,11 @@ impl Said<'_> {
                 self.action(*name, items.as_slice(), *end, found)?;
             }
             Section::Reward { word, parts } => self.reward(*word, parts.as_slice(), found)?,
-            Section::Setting { word, quantity, units } => {
+            Section::Setting {
+                word,
+                quantity,
+                units,
+            } => {
                 self.setting(*word, *quantity, *units, found);
             }
         }
@@ -141,7 +181,15 @@ impl Said<'_> {
         requires { IsLawful (process_of (said_by self)) }
         ensures { IfOk result (λ m. m ≡ process_of (said_by self.entry)) }
     {
-        let Said { names, actions, reward, discount, tolerance, horizon, .. } = self;
+        let Said {
+            names,
+            actions,
+            reward,
+            discount,
+            tolerance,
+            horizon,
+            ..
+        } = self;
         let Names { vars, dds, .. } = names;
         Ok(Model {
             vars,
@@ -156,7 +204,11 @@ impl Said<'_> {
 }
 
 /// The sections of a file.
-pub(crate) fn sections<'f>(names: Names<'f>, sections: &[Section], found: &mut Option<Refusal>) -> Result<Said<'f>, AllocError>
+pub(crate) fn sections<'f>(
+    names: Names<'f>,
+    sections: &[Section],
+    found: &mut Option<Refusal>,
+) -> Result<Said<'f>, AllocError>
     ensures means { IfOk result (λ said. said_by said ≡ sections_of names.entry.file.now (before_sections (scope_of names.entry)) sections.now) }
     ensures notes { OnOk result (found.new ≡ least found.old (sections_faults names.entry.file.now (before_sections (scope_of names.entry)) sections.now)) }
 {

@@ -20,13 +20,36 @@ fn a_lawful_file_is_read(rt: HostRuntime) -> Result<(), Fail> {
     let [dd] = model.dds.as_slice() else {
         return Err("not one decision diagram".into());
     };
-    assert!(rt; matches!(dd, Tree::Branch { var: 0, primed: true, .. }));
+    assert!(rt;
+        matches!(
+            dd,
+            Tree::Branch {
+                var: 0,
+                primed: true,
+                ..
+            }
+        )
+    );
     let [action] = model.actions.as_slice() else {
         return Err("not one action".into());
     };
     assert!(rt; matches!(action.tables.as_slice(), [Tree::Named(0)]));
-    assert!(rt; matches!(action.cost.as_slice(), [Tree::Leaf(250_000_000_000), Tree::Leaf(1_000_000_000_000)]));
-    assert!(rt; matches!(model.reward.as_slice(), [Tree::Branch { var: 0, primed: false, .. }]));
+    assert!(rt;
+        matches!(
+            action.cost.as_slice(),
+            [Tree::Leaf(250_000_000_000), Tree::Leaf(1_000_000_000_000)]
+        )
+    );
+    assert!(rt;
+        matches!(
+            model.reward.as_slice(),
+            [Tree::Branch {
+                var: 0,
+                primed: false,
+                ..
+            }]
+        )
+    );
     assert_eq!(rt; model.discount, 500_000);
     assert_eq!(rt; model.tolerance, 0);
     assert_eq!(rt; model.horizon, Some(3));

@@ -45,7 +45,11 @@ impl Names<'_> {
                 self.note_use(found, purpose, depth, name.from as usize, dd);
                 Ok(Tree::Named(dd.unwrap_or(0)))
             }
-            Shape::Choice { name, primed, branches } => {
+            Shape::Choice {
+                name,
+                primed,
+                branches,
+            } => {
                 let at = name.from as usize;
                 let var = self.variable(*name);
                 note_name(found, purpose, *primed, at, var);
@@ -55,7 +59,11 @@ impl Names<'_> {
                 note_if(found, missing, Refusal::MissingBranch { at });
                 let kids = trees_of(self.alloc, places)?;
                 let var = var.unwrap_or(0);
-                Ok(Tree::Branch { var, primed: *primed, kids })
+                Ok(Tree::Branch {
+                    var,
+                    primed: *primed,
+                    kids,
+                })
             }
         }
     }

@@ -15,7 +15,12 @@ use sqlite_items::Items;
 use std::alloc::{AllocError, Global};
 
 /// The names of values. A value that is declared a second time is noted.
-fn value_names<'f>(alloc: Global, file: &'f [u8], words: &[Word], found: &mut Option<Refusal>) -> Result<Index<'f>, AllocError>
+fn value_names<'f>(
+    alloc: Global,
+    file: &'f [u8],
+    words: &[Word],
+    found: &mut Option<Refusal>,
+) -> Result<Index<'f>, AllocError>
     ensures means { IfOk result (λ names. names ≡ value_names file.now [] words.now) }
     ensures notes { OnOk result (found.new ≡ least found.old (value_faults file.now [] words.now)) }
 {
@@ -23,14 +28,25 @@ fn value_names<'f>(alloc: Global, file: &'f [u8], words: &[Word], found: &mut Op
     for word in words {
         let name = text_of(file, *word);
         let twice = names.contains(name);
-        note_if(found, twice, Refusal::Twice { at: word.from as usize });
+        note_if(
+            found,
+            twice,
+            Refusal::Twice {
+                at: word.from as usize,
+            },
+        );
         names.declare(name)?;
     }
     Ok(names)
 }
 
 /// A variable, with the numbers of its values.
-fn variable<'f>(alloc: Global, file: &'f [u8], variable: &Variable, found: &mut Option<Refusal>) -> Result<(Var, Index<'f>), AllocError>
+fn variable<'f>(
+    alloc: Global,
+    file: &'f [u8],
+    variable: &Variable,
+    found: &mut Option<Refusal>,
+) -> Result<(Var, Index<'f>), AllocError>
     ensures means { IfOk result (λ x. x.0 ≡ var_of file.now variable.now) }
     ensures values { IfOk result (λ x. x.1 ≡ x.0.values) }
     ensures notes { OnOk result (found.new ≡ least found.old (value_faults file.now [] variable.now.values)) }
@@ -58,7 +74,13 @@ pub(crate) fn variables<'f>(
     for declared in variables {
         let name = text_of(file, declared.name);
         let twice = var_index.contains(name);
-        note_if(found, twice, Refusal::Twice { at: declared.name.from as usize });
+        note_if(
+            found,
+            twice,
+            Refusal::Twice {
+                at: declared.name.from as usize,
+            },
+        );
         let (var, values) = variable(alloc, file, declared, found)?;
         if !twice {
             var_index.declare(name)?;

@@ -1,10 +1,10 @@
-use Rattle.std.proofs.Common.{◌≡◌, ◌∙◌, ap, sym, arith}
+use Rattle.std.proofs.Common.{◌≡◌, ◌∙◌, ap, sym, length, arith}
 use Rattle.std.specs.Prelude.{is_none}
 use Rattle.std.specs.List.{list_any}
 use Rattle.spd_syntax.specs.declared.file.Shape.{Choice}
 use Rattle.spd_reader.specs.Faults.{least}
 use Rattle.spd_reader.specs.Trees.{no_trees, values_of, place_faults}
-use Rattle.spd_reader.specs.Scopes.{scope_of}
+use Rattle.spd_reader.specs.Scopes.{scope_of, branches_by, faults_by}
 use Rattle.spd_reader.proofs.TreeLaws.{branch_means, branch_notes, branches_noted, choice_means, choice_notes, number_notes}
 use Rattle.spd_reader.proofs.names.Names.+walk.Goals as goal
 
@@ -17,10 +17,10 @@ branches-loop-branch-preserved t c =
     let b = c.branch-item.result in
     record {
       means = branch_means file s values c.loop-branch.places.items c.put.new.places.items c.args.branches.now at b b c.value-value.result c.in_ok-tree.tree
-          c.loop-branch-test.true c.branch-item.is c.value-value.ensures c.in_ok-tree.ensures.means c.put.ensures _ c.loop-branch.invariant.means;
+          c.loop-branch-test.true c.branch-item.is c.value-value.ensures c.in_ok-tree.ensures.means c.put.ensures (branches_by file s values (no_trees (length values)) c.args.branches.now) c.loop-branch.invariant.means;
       notes = branch_notes file s values c.loop-branch.places.items c.put.new.places.items c.args.branches.now at b b c.value-value.result c.in_ok-tree.tree
           c.loop-branch-test.true c.branch-item.is c.value-value.ensures c.in_ok-tree.ensures.means c.put.ensures
-          c.args.purpose c.args.depth c.loop-branch.found c.note_place.new.found c.tree.new.found _
+          c.args.purpose c.args.depth c.loop-branch.found c.note_place.new.found c.tree.new.found (least c.args.found.now (faults_by file s c.args.purpose c.args.depth values (no_trees (length values)) c.args.branches.now))
           (c.note_place.ensures ∙ ap (λ places. least c.loop-branch.found (place_faults places b.value.from c.value-value.result)) c.as_slice.ensures.value)
           c.in_ok-tree.ensures.notes c.loop-branch.invariant.notes;
     }
