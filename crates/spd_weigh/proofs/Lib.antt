@@ -6,3 +6,4 @@ pub mod RuleLaws
 pub mod SlotLaws
 pub mod TopLaws
 pub mod DiscountLaws
+mod Rows

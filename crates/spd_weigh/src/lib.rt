@@ -15,3 +15,6 @@ mod weighing;
 pub use discounting::{discount, discount_with};
 pub use sum::{sum_out, sum_out_with};
 pub use way::Way;
+
+#[cfg(test)]
+mod tests;
