@@ -3,7 +3,7 @@
 //! `spd_syntax` reads the tokens of a model file as its grammar says: the variables, and the sections with their trees, each
 //! name as the place of its word, each number in its units. No name is understood yet. What isn't written so is refused with its
 //! first fault. The grammar is a relation by cases, the first fault follows from a table of what may stand where, and laws say
-//! that for each file just one of the two holds, for just one file read or one fault. The program doesn't call it yet.
+//! that for each file just one of the two holds, for just one file read or one fault. `spd_reader` understands its names.
 #![tactic(auto)]
 
 mod file;
