@@ -3,4 +3,7 @@ mod Returns
 mod Policies
 mod Bounds
 mod StopLaws
+mod Merges
+mod Changes
+mod TurnLaws
 mod Rows

@@ -10,6 +10,7 @@ use Rattle.spd_model.specs.States.{sizes, states, at, sum_over_states}
 use Rattle.spd_model.specs.Chances.{joint, scale_of}
 use Rattle.spd_model.specs.Backup.{low_of, high_of, policy_of}
 use Rattle.spd_model.specs.Turns.{turn, residual_of}
+use Rattle.spd_bellman.specs.TurnBound.{residual_at, added_by_turn, is_enough, leaves_room}
 use Rattle.spd_bellman.specs.Courses.{Course, stop, act, always, exact_return, return_of_course, return_of_policy}
 
 abbrev leaf : ℕ → Tree
@@ -82,6 +83,31 @@ error-keeping = refl
 policy-keeping : return_of_policy keeping (always (joint keeping)) second (always (policy_of keeping second)) 1 (0 ∷ []) ≡ pos (1875 * 10 ^ 24)
 unfolding shape-the_row-Tree-0 hidden-the_row-Tree-0 denote.Hole.Carrier.hidden
 policy-keeping = refl
+
+-- the residual of turn 0, and what a turn may add at the spans 0 and 100
+bound-keeping : (residual_at keeping (pos 0) 0 ≡ pos 500000000) × (added_by_turn keeping (pos 0) ≡ pos 6) × (added_by_turn keeping (pos 100) ≡ pos 102)
+unfolding shape-the_row-Tree-0 hidden-the_row-Tree-0 denote.Hole.Carrier.hidden
+bound-keeping = (refl, refl, refl)
+
+-- turn 5 is the least one that is enough: the first residual of 0.5 halves with each turn, and twice 0.5 / 2^5 is at most 0.1 times
+-- one minus the discount, but twice 0.5 / 2^4 isn't
+enough-keeping : map (is_enough keeping (pos 0)) (0 ∷ 1 ∷ 2 ∷ 3 ∷ 4 ∷ 5 ∷ 6 ∷ [])
+    ≡ false ∷ false ∷ false ∷ false ∷ false ∷ true ∷ true ∷ []
+unfolding shape-the_row-Tree-0 hidden-the_row-Tree-0 denote.Hole.Carrier.hidden
+enough-keeping = refl
+
+-- its tolerance leaves room up to a span of 12,499,996 units
+room-keeping : map (leaves_room keeping) (pos 0 ∷ pos 12499996 ∷ pos 12499997 ∷ []) ≡ true ∷ true ∷ false ∷ []
+unfolding shape-the_row-Tree-0 hidden-the_row-Tree-0 denote.Hole.Carrier.hidden
+room-keeping = refl
+
+-- with discount 0 turn 0 is enough where the tolerance is at least 2 * 6 + 2 * 2 units
+abbrev keeping_once : ℕ → Process
+keeping_once tolerance = record keeping { discount = 0; tolerance = pos tolerance }
+
+enough-once : map (λ tolerance. is_enough (keeping_once tolerance) (pos 0) 0) (100000000 ∷ 16 ∷ 15 ∷ []) ≡ true ∷ true ∷ false ∷ []
+unfolding shape-the_row-Tree-0 hidden-the_row-Tree-0 denote.Hole.Carrier.hidden
+enough-once = refl
 
 -- ---- a die whose next value is one, two or three, with nearly equal probabilities whatever it was; a reward of 1 at one
 

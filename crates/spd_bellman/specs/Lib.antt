@@ -1,3 +1,4 @@
 pub mod Courses
 pub mod Certificate
 pub mod Bound
+pub mod TurnBound

@@ -2,22 +2,25 @@
 //!
 //! `spd_bellman` has no code that runs. Its public functions carry laws over the definitions: the rounded bounds enclose the
 //! exact expected return, a value whose policy and residual hold bounds every course of action in every number of steps, no value
-//! of any turn leaves its bound, and a run stops at the first turn at which its rule holds.
+//! of any turn leaves its bound, a run stops at the first turn at which its rule holds, and how many turns are enough for that is
+//! known after the first.
 #![tactic(auto)]
 
-ghost use Rattle.std.specs.Prelude.{Bool, All, ℕ, ◌^◌, ◌<◌, ◌≡◌, length, List, Contains, ℤ, pos, ◌*ℤ◌, ◌≤ℤ◌};
+ghost use Rattle.std.specs.Prelude.{Bool, true, All, ℕ, suc, ◌^◌, ◌<◌, ◌≤◌, ◌≡◌, length, List, Contains, ℤ, pos, ◌+ℤ◌, ◌*ℤ◌, ◌≤ℤ◌};
 ghost use Rattle.spd_model.specs.declared.process.Action.{Action};
+ghost use Rattle.spd_model.specs.declared.Why.TheVariants.{Done};
 ghost use Rattle.spd_model.specs.Process.{Process};
 ghost use Rattle.spd_model.specs.States.{sizes, IsState, sum_over_states};
-ghost use Rattle.spd_model.specs.Chances.{IsValid, joint, scale_of};
+ghost use Rattle.spd_model.specs.Chances.{IsValid, discount_one, joint, scale_of};
 ghost use Rattle.spd_model.specs.Backup.{low_of, high_of, policy_of};
-ghost use Rattle.spd_model.specs.Turns.{residual_of, turn, value_limit, IsBounded};
+ghost use Rattle.spd_model.specs.Turns.{residual_of, turn, rule_at, stop_of, value_limit, IsBounded};
 ghost use Rattle.spd_model.specs.Lawful.{IsLawful};
 ghost use Rattle.spd_model.specs.Stops.{first_stop, IsFirstStop};
 ghost use Rattle.spd_scaled.specs.Scaled.{IsWithin};
 ghost use Rattle.spd_bellman.specs.Courses.{IsPolicy, IsAmongCourses, exact_return};
 ghost use Rattle.spd_bellman.specs.Certificate.{Holds};
 ghost use Rattle.spd_bellman.specs.Bound.{IsBoundAbove, IsBoundBelow, IsPolicyNear, IsNearOptimal};
+ghost use Rattle.spd_bellman.specs.TurnBound.{residual_at, added_by_turn, is_enough, leaves_room};
 
 /// The joint probabilities of all next states are at least 0, and sum to one.
 ///
@@ -81,4 +84,18 @@ pub fn law_bounded()
 /// A run stops at the first turn at which the rule holds, and where there is none up to the limit, at the limit.
 pub fn law_stop()
     ensures { (rule : ℕ → Bool) (turns : ℕ) → IsFirstStop rule turns (first_stop rule turns) }
+{}
+
+/// The residual shrinks from turn to turn by the discount, but for what merging and rounding may add. So the stop rule holds at each
+/// turn that is enough, the run stops no later, and it is done unless its limit comes before. Where the tolerance leaves room for the
+/// error that stays, some turn is enough.
+pub fn law_turns()
+    ensures shrinks { (m : Process) → IsValid m → m.discount ≤ discount_one → (span : ℤ) (k : ℕ)
+        → (pos discount_one *ℤ residual_at m span (suc k)) ≤ℤ (pos m.discount *ℤ residual_at m span k +ℤ pos discount_one *ℤ added_by_turn m span) }
+    ensures enough { (m : Process) → IsValid m → (span : ℤ) (k : ℕ) → is_enough m span k ≡ true → rule_at m span k ≡ true }
+    ensures stops { (m : Process) → IsValid m → (span : ℤ) (k turns : ℕ) → is_enough m span k ≡ true
+        → (stop_of m turns span).turn ≤ k }
+    ensures done { (m : Process) → IsValid m → (span : ℤ) (k turns : ℕ) → is_enough m span k ≡ true → k ≤ turns
+        → (stop_of m turns span).why ≡ Done }
+    ensures some { (m : Process) → IsValid m → (span : ℤ) → leaves_room m span ≡ true → (k : ℕ) × (is_enough m span k ≡ true) }
 {}
