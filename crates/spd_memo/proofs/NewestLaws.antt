@@ -1,7 +1,8 @@
 -- The newest pairs of a memo stay, also where one of them is looked up or a pair is put.
-use Rattle.std.proofs.Common.{◌≡◌, ℕ, zero, suc, ◌-◌, ◌+◌, ◌<◌, ◌≤◌, ◌==◌, Bool, true, false, cond, List, [], ◌∷◌, All, length, take, Option, Some, None, refl, ap, sym, ◌∙◌, subst, arith}
+use Rattle.std.proofs.Common.{◌≡◌, ℕ, zero, suc, ◌-◌, ◌≤◌, Bool, true, false, cond, List, [], ◌∷◌, All, length, take, Option, Some, None, refl, ap, sym, ◌∙◌, subst, arith}
 use Rattle.std.specs.Prelude.{Contains}
-use Rattle.std.specs.Map.{lookup, lookup_entry, remove_entry}
+use Rattle.std.specs.List.{IsDistinct, AllByRecursion}
+use Rattle.std.specs.Map.{keys_of, lookup, lookup_entry, remove_entry}
 use Rattle.std.specs.Option.{option_map_or}
 use Rattle.std.proofs.lemmas.Bool.{and_from, true≢false}
 use Rattle.std.proofs.lemmas.Bool.Decides.{Decides-eqb}
@@ -9,7 +10,7 @@ use Rattle.std.proofs.lemmas.List.{length-take}
 use Rattle.std.proofs.lemmas.List.Elements.{All-nil, All-cons, All-head, All-tail, All-contains}
 use Rattle.spd_cons_core.specs.declared.key.Entry.{Entry}
 use Rattle.lru.proofs.CallerLemmas.{Contains-lookup_entry}
-use Rattle.spd_memo.specs.Kept.{KeptAnswers, is_same_pair, answer_in, promoted_in, pairs_put, Keeps}
+use Rattle.spd_memo.specs.Kept.{KeptAnswers, IsKept, is_same_pair, answer_in, promoted_in, pairs_put, Keeps}
 use Rattle.spd_memo.proofs.KeptLaws.{is_same_pair-true}
 
 abbrev Pairs : Type 0
@@ -107,3 +108,35 @@ length-promoted k f g = go (lookup_entry (is_same_pair f g) k.pairs) refl
 
 pub length-put : (n : ℕ) (k : KeptAnswers) (f g r : Entry) → (Keeps k f g → ⊥) → n ≤ length k.pairs → suc n ≤ k.capacity → suc n ≤ length (pairs_put k f g r)
 length-put n k f g r absent there room = rw (not-found k f g absent) (omega (arith, length-take (k.capacity - 1) k.pairs))
+
+-- ---- the newest pairs differ, and from a pair that isn't kept
+
+abbrev pub SamePair : Entry × Entry → Entry × Entry → Bool
+SamePair p q = is_same_pair p.0 p.1 q
+
+apart-take : (p : Entry × Entry) (n : ℕ) (pairs : Pairs) → AllByRecursion (λ q. SamePair p q ≡ false) (keys_of pairs)
+    → AllByRecursion (λ q. SamePair p q ≡ false) (keys_of (take n pairs))
+apart-take p zero pairs h = tt
+apart-take p (suc n) [] h = tt
+apart-take p (suc n) (e ∷ pairs) h = (h.0, apart-take p n pairs h.1)
+
+distinct-take : (n : ℕ) (pairs : Pairs) → IsDistinct SamePair (keys_of pairs) → IsDistinct SamePair (keys_of (take n pairs))
+unfolding IsDistinct
+distinct-take zero pairs h = tt
+distinct-take (suc n) [] h = tt
+distinct-take (suc n) (e ∷ pairs) h = (apart-take e.0 n pairs h.0, distinct-take n pairs h.1)
+
+pub distinct-newest : (n : ℕ) (k : KeptAnswers) → IsKept k → IsDistinct SamePair (keys_of (take n k.pairs))
+distinct-newest n k h = distinct-take n k.pairs h.once
+
+apart-absent : (f g : Entry) (pairs : Pairs) → ((r : Entry) → Contains pairs ((f, g), r) → ⊥) → AllByRecursion (λ q. SamePair (f, g) q ≡ false) (keys_of pairs)
+apart-absent f g [] h = tt
+apart-absent f g (e ∷ pairs) h = (go (is_same_pair f g e.0) refl, apart-absent f g pairs (λ r c. h r (suc c.0, omega (arith, c.1), c.2)))
+  where
+    go : (b : Bool) → is_same_pair f g e.0 ≡ b → is_same_pair f g e.0 ≡ false
+    go false t = t
+    go true t = let same = is_same_pair-true f g e.0 t in absurd (h e.1 (0, omega arith, λ i. (same i, e.1)))
+
+pub distinct-with : (n : ℕ) (k : KeptAnswers) (f g : Entry) → IsKept k → (Keeps k f g → ⊥) → IsDistinct SamePair ((f, g) ∷ keys_of (take n k.pairs))
+unfolding IsDistinct
+distinct-with n k f g h absent = (apart-take (f, g) n k.pairs (apart-absent f g k.pairs (λ r c. absent (r, c))), distinct-take n k.pairs h.once)
