@@ -1,7 +1,7 @@
 #!/bin/sh
 # Runs the program on the real system, where files and streams fail: prints a line for each case, and exits 1 where one fails.
 root=$(cd "$(dirname "$0")/.." && pwd)
-model=$root/examples/keep.spudd
+model=$root/crates/spudd/stdin
 result=$root/crates/spudd/stdout
 
 spudd() {
@@ -73,7 +73,7 @@ else
     fails "a file without read permission" 3 "cannot open unreadable" 'spudd solve unreadable'
 fi
 fails "a file that never ends" 4 "/dev/zero is too long" 'spudd solve /dev/zero'
-fails "an empty file" 5 "refused" 'spudd solve /dev/null'
+fails "an empty file" 5 "refused at byte 0: expected variables" 'spudd solve /dev/null'
 
 fails "a closed standard output" 12 "cannot write" 'spudd solve model >&-'
 fails "a full device" 12 "cannot write" 'spudd solve model >/dev/full'
@@ -89,6 +89,34 @@ fails "a name that begins with a dash" 2 "usage: word 1" 'spudd solve --help'
 fails "a word too many" 2 "usage: word 2" 'spudd solve model more'
 fails "a word too many after a name that isn't UTF-8" 2 "usage: word 2" 'spudd solve "$(printf "\\377")" more'
 fails "a page with a word" 2 "usage: word 0" 'spudd --version more'
+
+# The models of tests/small, whose results an independent calculation gave.
+for file in "$root"/tests/small/*.spudd; do
+    base=${file%.spudd}
+    name=$(basename "$base")
+    options=""
+    if [ -f "$base.options" ]; then options=$(cat "$base.options"); fi
+    message=""
+    status=0
+    if grep -q '^status limit$' "$base.result"; then
+        status=8
+        message="turn limit reached, $(grep '^residual ' "$base.result")"
+    fi
+    for command in solve plain; do
+        # shellcheck disable=SC2086
+        (spudd $command "$file" $options) >"$output" 2>"$errors"
+        verdict "$command on $name" $status "$message" "$base.result" $?
+    done
+done
+
+# Refused files, prefixes, examples and command words, which scripts of their own compare with references.
+if command -v python3 >/dev/null; then
+    for script in refused words; do
+        python3 "$root/tests/$script/run.py" "$root/crates/spudd/out/spudd" || failed=1
+    done
+else
+    echo "skipped tests/refused and tests/words: there is no python3"
+fi
 
 echo "spudd 0.1.0" >"$scratch/version"
 succeeds "--version" "$scratch/version" 'spudd --version'

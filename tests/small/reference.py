@@ -1,12 +1,12 @@
 #!/usr/bin/env python3
-"""The result text of a small model, computed on plain tables by the rules of docs/RULES.md.
+"""What comes of a small model, computed on plain tables by the rules of docs/RULES.md.
 
-    reference.py FILE [--turns N] [--span X]      prints the text that `spudd solve FILE` has to print
+    reference.py FILE [--turns N] [--span X]      prints the text that `spudd solve FILE` has to print, or its message
     reference.py --all                            writes NAME.result beside each NAME.spudd of this folder, with the options of NAME.options
 
 It shares nothing with the solver but those rules: whole numbers of Python, one entry for each state, no diagrams. It reads lawful
-files alone and refuses nothing but a sum or a reward that the rules refuse."""
-import hashlib, itertools, os, re, sys
+files alone and refuses nothing but too many states, a sum or a reward that the rules refuse."""
+import functools, hashlib, itertools, os, re, sys
 from fractions import Fraction
 
 P = 10 ** 12            # one, as a probability
@@ -60,7 +60,10 @@ class Model:
                 self.next()                                     # a horizon
         if not hasattr(self, "tolerance"):
             self.tolerance = 0
-        self.states = list(itertools.product(*[range(len(v)) for v in self.values]))
+
+    @functools.cached_property
+    def states(self):
+        return list(itertools.product(*[range(len(v)) for v in self.values]))
 
     def peek(self):
         return self.words[self.i]
@@ -222,16 +225,17 @@ def nodes(m, table, leaf):
     return lines
 
 
-def result(m, turns, span):
-    wrong = check_sums(m)
-    if wrong:
-        a, i, s, total = wrong
-        return "sum of action %s, variable %s at %s is %s\n" % (m.actions[a][0], m.names[i], place(m, s), number(total, 12))
-    for a in range(len(m.actions)):
-        for s in m.states:
-            if abs(reward(m, a, s)) > 10 ** 18:
-                return "reward of action %s at %s is %s\n" % (m.actions[a][0], place(m, s), number(reward(m, a, s)))
-    k, done, w, policy, residual, at, above, action = solve(m, turns, span)
+def too_many_states(m):
+    """The first product of leading variables' numbers of values that passes 4,096."""
+    product = 1
+    for values in m.values:
+        product *= len(values)
+        if product > 4096:
+            return product
+    return None
+
+
+def text_of(m, k, done, w, policy, residual, at, above, action):
     value = nodes(m, w, number)
     plan = nodes(m, policy, lambda a: m.actions[a][0])
     lines = ["spd result 2", "model " + m.digest, "status " + ("done" if done else "limit"), "turn %d" % k, "residual " + number(residual),
@@ -239,6 +243,25 @@ def result(m, turns, span):
              "error " + number(ceiling(residual * ONE, ONE - m.discount)),
              "value %d" % len(value), *value, "policy %d" % len(plan), *plan, "end"]
     return "\n".join(lines) + "\n"
+
+
+def outcome(data, turns=10000, span=0):
+    """The exit status, the message and the text of `spudd solve` on a lawful file, solved over tables."""
+    m = Model(data)
+    product = too_many_states(m)
+    if product:
+        return 13, "too many states: %d or more" % product, ""
+    wrong = check_sums(m)
+    if wrong:
+        a, i, s, total = wrong
+        return 6, "sum of action %s, variable %s at %s is %s" % (m.actions[a][0], m.names[i], place(m, s), number(total, 12)), ""
+    for a in range(len(m.actions)):
+        for s in m.states:
+            if abs(reward(m, a, s)) > 10 ** 18:
+                return 7, "reward of action %s at %s is %s" % (m.actions[a][0], place(m, s), number(reward(m, a, s))), ""
+    found = solve(m, turns, span)
+    done, residual = found[1], found[4]
+    return (0, "", text_of(m, *found)) if done else (8, "turn limit reached, residual " + number(residual), text_of(m, *found))
 
 
 def place(m, s):
@@ -255,17 +278,26 @@ def options(words):
     return turns, span
 
 
+def read(file):
+    with open(file, "rb") as opened:
+        return opened.read()
+
+
 def main():
     if sys.argv[1:] == ["--all"]:
         here = os.path.dirname(os.path.abspath(__file__))
         for name in sorted(os.listdir(here)):
             if name.endswith(".spudd"):
                 base = os.path.join(here, name[:-6])
-                words = open(base + ".options").read().split() if os.path.exists(base + ".options") else []
+                words = read(base + ".options").decode().split() if os.path.exists(base + ".options") else []
                 with open(base + ".result", "w") as out:
-                    out.write(result(Model(open(base + ".spudd", "rb").read()), *options(words)))
+                    out.write(outcome(read(base + ".spudd"), *options(words))[2])
         return
-    sys.stdout.write(result(Model(open(sys.argv[1], "rb").read()), *options(sys.argv[2:])))
+    status, message, text = outcome(read(sys.argv[1]), *options(sys.argv[2:]))
+    sys.stdout.write(text)
+    if message:
+        print(message, file=sys.stderr)
 
 
-main()
+if __name__ == "__main__":
+    main()

@@ -1,9 +1,9 @@
--- What the lists of axes, reaches and kept chances tell of a model.
+-- What the lists of axes, reaches and kept probabilities tell of a model.
 use Rattle.std.proofs.Common.{◌≡◌, ◌∙◌, ℕ, suc, ◌<◌, ◌≤◌, ◌++◌, Bool, true, false, nat_le, if◌then◌else◌, List, [], ◌∷◌, length, map, take, get_or, slice_get, slice_index, Option, Some, None, Contains, ℤ, pos, refl, ap, sym, subst, arith}
 use Rattle.std.proofs.lemmas.Bool.Decides.{nat_tests}
 use Rattle.std.proofs.lemmas.List.{get_or-map, get_or_default}
 use Rattle.std.proofs.lemmas.List.Elements.{All-contains}
-use Rattle.std.proofs.lemmas.Option.{slice_get-get_or}
+use Rattle.std.proofs.lemmas.Option.{slice_get-get_or, same_Some}
 use Rattle.std.proofs.Math.ListN.{length-map}
 use Rattle.spd_model.specs.declared.tree.Tree.{Tree, Leaf}
 use Rattle.spd_model.specs.declared.process.Action.{Action}
@@ -18,13 +18,11 @@ use Rattle.spd_model.proofs.CallerLemmas.StateOrder.{length-IsState, length-size
 use Rattle.spd_plain.specs.declared.space.Axis.{Axis}
 use Rattle.spd_plain.specs.declared.reach.Reach.{Reach}
 use Rattle.spd_plain.specs.declared.reach.Reach.TheVariants.{Own, Later}
-use Rattle.spd_plain.specs.declared.chances.Chances.{Chances}
-use Rattle.spd_plain.specs.declared.chances.Chances.TheVariants.{Kept, Read}
 use Rattle.spd_plain.specs.Space.{state_limit}
 use Rattle.spd_plain.specs.inner.Axes.{axis_of, axes_of, IsAxis}
 use Rattle.spd_plain.specs.inner.Reach.{latest, reach_at, reaches_after}
-use Rattle.spd_plain.specs.inner.Chances.{chance_of, values_of, IsKept}
-use Rattle.spd_plain.specs.inner.Outlooks.{known_of}
+use Rattle.spd_plain.specs.inner.Chances.{chance_of, values_of, HoldFor}
+use Rattle.spd_plain.specs.inner.Outlooks.{keeps, kept_of}
 use Rattle.spd_plain.proofs.Tables.{few_from}
 use Rattle.spd_plain.proofs.TableValues.{value-own}
 
@@ -68,22 +66,32 @@ module _ (m : Process) (law : IsLawful m) (a : Action) (offered : Contains m.act
       ∙ value-own m i (get_or a.tables i (Leaf (pos 0))) (action.tables i (Leaf (pos 0)) near).table s (omega (arith, length-IsState (sizes m) s state, length-sizes m)) (own_latest own) v first rest
       ∙ sym (read (v ∷ rest))
 
-  -- what is kept of a variable's probabilities holds
-  pub known_kept : (s : List ℕ) → IsState (sizes m) s → IsKept m a s i (known_of m a s i)
-  known_kept s state = by_reach (reach_at m a i) refl
-    where
-      by_reach : (r : Reach) → reach_at m a i ≡ r → IsKept m a s i (elim r [ Own ↦ Kept (values_of m a s i) | Later ↦ Read ])
-      by_reach Own own =
-          let f : ℕ → ℤ = λ v. chance_of m a s i (v ∷ get_or (states (sizes_after m i)) 0 []) in (
-            length-below f (slice_index (sizes m) i) (values_of m a s i) refl,
-            λ v rest below later.
-                get_or-map f (numbers_below (slice_index (sizes m) i)) v 0 (pos 0) (omega (arith, length-numbers_below (slice_index (sizes m) i)))
-                ∙ ap f (get_or-numbers_below (slice_index (sizes m) i) v below)
-                ∙ own_same own s state v (get_or (states (sizes_after m i)) 0 []) rest,
-          )
-      by_reach Later later = tt
+  -- the probabilities for the first values of the later variables hold for all of theirs
+  pub values_hold : reach_at m a i ≡ Own → (s : List ℕ) → IsState (sizes m) s → HoldFor m a s i (values_of m a s i)
+  values_hold own s state =
+      let f : ℕ → ℤ = λ v. chance_of m a s i (v ∷ get_or (states (sizes_after m i)) 0 []) in record {
+        count = length-below f (slice_index (sizes m) i) (values_of m a s i) refl;
+        each = λ v rest below later.
+            get_or-map f (numbers_below (slice_index (sizes m) i)) v 0 (pos 0) (omega (arith, length-numbers_below (slice_index (sizes m) i)))
+            ∙ ap f (get_or-numbers_below (slice_index (sizes m) i) v below)
+            ∙ own_same own s state v (get_or (states (sizes_after m i)) 0 []) rest;
+      }
 
--- the axis that stands at k, and what is kept of its variable's probabilities
+-- what is kept of a variable's probabilities
+pub kept_at : (m : Process) (a : Action) (s : List ℕ) (i : ℕ) → i < length m.vars → (x : List ℤ) → slice_get (kept_of m s a) i ≡ Some x → x ≡ values_of m a s i
+kept_at m a s i near x = by (keeps m)
+  where
+    all : List (List ℤ)
+    all = map (values_of m a s) (numbers_below (length m.vars))
+
+    inside : i < length all
+    inside = omega (arith, length-below (values_of m a s) (length m.vars) all refl)
+
+    by : (b : Bool) → slice_get (if b then all else []) i ≡ Some x → x ≡ values_of m a s i
+    by true is = entry_below (values_of m a s) (length m.vars) i x all refl near (same_Some x (get_or all i x) (sym is ∙ slice_get-get_or all i x inside))
+    by false is = absurd (cc)
+
+-- the axis that stands at k, and the reach of its variable's table
 module _ (m : Process) (law : IsLawful m) (few : state_count (sizes m) ≤ state_limit) (axes : List Axis) (are : axes ≡ axes_of m) (k : ℕ) (test : k < length axes) (d : Axis) where
   near_var : k < length m.vars
   near_var = omega (arith, length-below (axis_of m) (length m.vars) axes are)
@@ -96,12 +104,6 @@ module _ (m : Process) (law : IsLawful m) (few : state_count (sizes m) ≤ state
 
   pub is_axis : IsAxis m (get_or axes k d)
   is_axis = axis_read m law few k (get_or axes k d) near_var axis_is
-
-  pub known_at : (a : Action) → Contains m.actions a → (s : List ℕ) → IsState (sizes m) s → (known : List Chances) (x : Chances) → known ≡ map (known_of m a s) (numbers_below (length m.vars))
-      → x ≡ get_or known k x → IsKept m a s (get_or axes k d).var x
-  known_at a offered s state known x knows is =
-      let x_is = entry_below (known_of m a s) (length m.vars) k x known knows near_var is in
-      subst (λ (j : ℕ). IsKept m a s j x) (sym var_is) (subst (IsKept m a s k) (sym x_is) (known_kept m law a offered k near_var s state))
 
   -- the reach of that variable's table
   pub reach_read : (a : Action) (reaches : List Reach) → reaches ≡ reaches_after m a → get_or reaches k Own ≡ reach_at m a (get_or axes k d).var

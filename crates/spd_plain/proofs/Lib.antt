@@ -14,8 +14,8 @@ pub mod SweepLaws
 pub mod Runs
 pub mod Shapes
 pub mod Told
-pub mod OneState
 mod LimitRows
+mod RangeRows
 pub mod BitTests
 pub mod Products
 pub mod ReturnFits

@@ -16,9 +16,8 @@ use Rattle.spd_model.specs.Turns.{value_limit}
 use Rattle.spd_model.proofs.CallerLemmas.StateOrder.{IsState-get_or, at-get_or, length-sizes, sizes_some}
 use Rattle.spd_model.proofs.CallerLemmas.Sums.{sum_below-cong}
 use Rattle.spd_plain.specs.declared.space.Axis.{Axis}
-use Rattle.spd_plain.specs.declared.chances.Chances.TheVariants.{Kept}
 use Rattle.spd_plain.specs.inner.Axes.{IsAxis}
-use Rattle.spd_plain.specs.inner.Chances.{chance_of, TellsChances, IsKept}
+use Rattle.spd_plain.specs.inner.Chances.{chance_of, TellsChances, HoldFor}
 use Rattle.spd_plain.specs.inner.Expectations.{entry, weighted, AreWeights}
 use Rattle.spd_plain.proofs.Tables.{size_is, after_is, axis_more, after_some, counted}
 use Rattle.spd_plain.proofs.Weights.{entry_below}
@@ -37,12 +36,12 @@ module _ (m : Process) (a : Action) (s : List ℕ) (axis : Axis) (is : IsAxis m 
         ∙ ap (chance_of m a s axis.var) (axis_more m axis is v k below near)
 
   -- kept probabilities, each at all places of the variables after it
-  pub kept_tells : IsLawful m → (kept chances : List ℤ) → IsKept m a s axis.var (Kept kept) → length chances ≡ length kept * axis.after
+  pub kept_tells : IsLawful m → (kept chances : List ℤ) → HoldFor m a s axis.var kept → length chances ≡ length kept * axis.after
       → ((v k : ℕ) → v < length kept → k < axis.after → get_or chances (v * axis.after + k) (pos 0) ≡ get_or kept v (pos 0)) → TellsChances m a s axis.var chances
   kept_tells law kept chances holds len spread =
-      let size : length kept ≡ axis.size = holds.0 ∙ sym (size_is m axis is) in
+      let size : length kept ≡ axis.size = holds.count ∙ sym (size_is m axis is) in
       record {
-        count = len ∙ (λ i. holds.0 i * after_is m axis is i);
+        count = len ∙ (λ i. holds.count i * after_is m axis is i);
         each = λ k near.
             let some = after_some m law axis is in
             let v = k / axis.after in
@@ -53,7 +52,7 @@ module _ (m : Process) (a : Action) (s : List ℕ) (axis : Axis) (is : IsAxis m 
             let parts : k ≡ k / axis.after * axis.after + k % axis.after = omega (arith, div-add-mod' k axis.after) in
             ap (λ (n : ℕ). get_or chances n (pos 0)) parts
             ∙ spread v j (omega arith) place
-            ∙ holds.1 v (get_or (states (sizes_after m axis.var)) j []) (omega (arith, size_is m axis is)) (IsState-get_or (sizes_after m axis.var) j (omega (arith, after_is m axis is)))
+            ∙ holds.each v (get_or (states (sizes_after m axis.var)) j []) (omega (arith, size_is m axis is)) (IsState-get_or (sizes_after m axis.var) j (omega (arith, after_is m axis is)))
             ∙ ap (chance_of m a s axis.var) (sym (axis_more m axis is v j below place))
             ∙ ap (λ (n : ℕ). chance_of m a s axis.var (get_or (states (drop axis.var (sizes m))) n [])) (sym parts);
       }

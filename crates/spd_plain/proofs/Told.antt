@@ -1,18 +1,16 @@
 -- What a result on tables tells is what the definitions tell of its turn.
-use Rattle.std.proofs.Common.{◌≡◌, ◌==◌, ℕ, suc, Bool, List, [], ◌∷◌, map, All, ℤ, ap, ◌∙◌, arith}
+use Rattle.std.proofs.Common.{◌≡◌, ◌==◌, ℕ, List, [], ◌∷◌, map, All, ℤ, ap, ◌∙◌, arith}
 use Rattle.std.proofs.lemmas.List.{get_or-map}
 use Rattle.std.proofs.lemmas.List.Elements.{All-head, All-tail}
 use Rattle.spd_model.proofs.CallerLemmas.Diagrams.{reduced-agree}
 use Rattle.spd_model.specs.Process.{Process}
-use Rattle.spd_model.specs.Numbers.{numbers_below}
 use Rattle.spd_model.specs.States.{sizes, states, rank, IsState}
 use Rattle.spd_model.specs.Backup.{policy_of}
 use Rattle.spd_model.specs.Turns.{stop_value}
-use Rattle.spd_model.specs.Reduced.{leaf, choice_of, reduced_from, listed}
+use Rattle.spd_model.specs.Reduced.{listed}
 use Rattle.spd_model.specs.ResultText.{result_of}
 use Rattle.spd_plain.specs.declared.solve.Plain.{Plain}
 use Rattle.spd_plain.specs.Plain.{plain_of, told_of}
-use Rattle.spd_model.proofs.CallerLemmas.Lists.{All-numbers_below}
 use Rattle.spd_model.proofs.CallerLemmas.StateOrder.{get_or-states, rank_below, length-states}
 
 map_same : {X Y : Type 0} (f g : X → Y) (xs : List X) → All (λ x. f x ≡ g x) xs → map f xs ≡ map g xs

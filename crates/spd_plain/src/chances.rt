@@ -7,8 +7,11 @@ ghost use Rattle.spd_model.specs.States.{sizes, states, state_count, IsState};
 ghost use Rattle.spd_model.specs.Chances.{sizes_after, sum_of};
 ghost use Rattle.spd_plain.specs.Space.{state_limit};
 ghost use Rattle.spd_plain.specs.inner.Axes.{IsSpace, IsAxis};
-ghost use Rattle.spd_plain.specs.inner.Chances.{chance_of, values_of, IsKept, TellsChances};
+ghost use Rattle.spd_plain.specs.inner.Chances.{chance_of, values_of, TellsChances};
+ghost use Rattle.spd_plain.specs.inner.Reach.{reach_at};
+ghost use Rattle.spd_plain.specs.inner.Outlooks.{kept_of};
 
+use crate::reach::Reach;
 use crate::space::{Axis, Space};
 use spd_model::{Action, Model, State};
 use sqlite_items::Items;
@@ -75,15 +78,6 @@ pub(crate) fn chance_sum(
     sum
 }
 
-/// The probabilities of a variable's next values after an action at a state.
-#[derive(Debug, Drop)]
-pub enum Chances {
-    /// They are the same for all next values of the variables after it: one for each value, in units of 10^-12.
-    Kept(Items<i128>),
-    /// They follow those next values, and are read anew.
-    Read,
-}
-
 /// The probabilities of a variable's values after `action` at `s`, where the variables after it have their first values.
 pub(crate) fn kept_chances(
     alloc: Global,
@@ -122,6 +116,34 @@ fn spread(kept: &[i128], after: usize, chances: &mut Vec<i128>) -> Result<(), Al
     Ok(())
 }
 
+/// Reads the probabilities of a variable's values where the variables after it have their first values, and writes each as often as
+/// those variables have states.
+fn read_steady_chances(
+    model: &Model,
+    action: &Action,
+    s: &State,
+    axis: &Axis,
+    space: &Space,
+    chances: &mut Vec<i128>,
+) -> Result<(), AllocError>
+    requires action { Contains model.now.actions action.now }
+    requires state { IsState (sizes model.now) s.now }
+    requires axis { IsAxis model.now axis.now }
+    requires space { IsSpace model.now space.now }
+    ensures len { OnOk result (length chances.new.items ≡ axis.now.size * axis.now.after) }
+    ensures each { OnOk result ((v k : ℕ) → v < axis.now.size → k < axis.now.after
+        → slice_index_or chances.new.items (v * axis.now.after + k) (pos 0) ≡ slice_index_or (values_of model.now action.now s.now axis.now.var) v (pos 0)) }
+{
+    // Reading a field tells the proof what every model keeps.
+    let _vars = &model.vars;
+    chances.clear();
+    for value in 0..axis.size {
+        let chance = chance_at(model, action, s, axis, space, value * axis.after);
+        chances.resize((value + 1) * axis.after, chance)?;
+    }
+    Ok(())
+}
+
 /// Reads the probabilities of a variable's values, for each state of the variables after it.
 fn read_chances(
     model: &Model,
@@ -144,27 +166,33 @@ fn read_chances(
     Ok(())
 }
 
-/// Tells the probabilities of a variable's values after `action` at `s`, for each state of the variables after it.
+/// Tells the probabilities of a variable's values after `action` at `s`, for each state of the variables after it. Those that don't
+/// follow these variables are taken from `kept`, where all of them are kept, or else are read once each.
 pub(crate) fn tell_chances(
     model: &Model,
     action: &Action,
     s: &State,
     axis: &Axis,
     space: &Space,
-    known: &Chances,
+    reach: Reach,
+    kept: &Items<Items<i128>>,
     chances: &mut Vec<i128>,
 ) -> Result<(), AllocError>
     requires action { Contains model.now.actions action.now }
     requires state { IsState (sizes model.now) s.now }
     requires axis { IsAxis model.now axis.now }
     requires space { IsSpace model.now space.now }
-    requires known { IsKept model.now action.now s.now axis.now.var known.now }
+    requires reach { reach ≡ reach_at model.now action.now axis.now.var }
+    requires kept { kept.now ≡ kept_of model.now s.now action.now }
     ensures { OnOk result (TellsChances model.now action.now s.now axis.now.var chances.new.items) }
 {
     // Reading a field tells the proof what every model keeps.
     let _vars = &model.vars;
-    match known {
-        Chances::Kept(kept) => spread(kept.as_slice(), axis.after, chances),
-        Chances::Read => read_chances(model, action, s, axis, space, chances),
+    match reach {
+        Reach::Later => read_chances(model, action, s, axis, space, chances),
+        Reach::Own => match kept.get(axis.var) {
+            Some(own) => spread(own.as_slice(), axis.after, chances),
+            None => read_steady_chances(model, action, s, axis, space, chances),
+        },
     }
 }

@@ -116,7 +116,7 @@ pub(crate) fn expect(
     // Reading a field tells the proof what every model keeps.
     let _vars = &model.vars;
     let axes = space.axes.as_slice();
-    let known = outlook.chances.as_slice();
+    let reaches = outlook.reaches.as_slice();
     work.low.clear();
     work.low.extend_from_slice(values)?;
     work.high.clear();
@@ -129,7 +129,8 @@ pub(crate) fn expect(
             s,
             axis,
             space,
-            &known[var],
+            reaches[var],
+            &outlook.kept,
             &mut work.chances,
         )?;
         sum_out(

@@ -15,8 +15,6 @@ mod scales;
 mod solve;
 mod space;
 mod sweep;
-#[cfg(test)]
-mod tests;
 mod validity;
 
 pub use solve::{Plain, PlainFault, plain_solve};

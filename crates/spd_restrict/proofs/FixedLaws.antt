@@ -73,7 +73,7 @@ module _ (first end value : ℕ) (s : Shown) (o : IsSound s) (f g : Entry) (kf :
         record { is = rw (e, t, u, v) refl; goes = go-on n kn (up-no (λ j k. omega arith)); nodes = rw (sym twice, e) (InNo Itself, InNo Itself); smaller = omega (arith, smaller.1) }
 
 -- writes to a point are writes to its states
-set-primed : (sizes s t : List ℕ) (var v : ℕ) → IsState sizes s → IsState sizes t → var < length sizes → set (point s t) (2 * var + 0) v ≡ point s (set t var v)
+pub set-primed : (sizes s t : List ℕ) (var v : ℕ) → IsState sizes s → IsState sizes t → var < length sizes → set (point s t) (2 * var + 0) v ≡ point s (set t var v)
 set-primed [] s t var v p q h = absurd (omega arith)
 set-primed (d ∷ ds) [] t var v p q h = absurd p
 set-primed (d ∷ ds) (x ∷ s) [] var v p q h = absurd q

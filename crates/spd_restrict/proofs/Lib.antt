@@ -1,3 +1,4 @@
+pub mod CallerLemmas
 pub mod BranchLaws
 pub mod ChosenLaws
 pub mod CofactorLaws

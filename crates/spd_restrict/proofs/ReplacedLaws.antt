@@ -15,7 +15,7 @@ use Rattle.spd_apply.proofs.CallerLemmas.{GoesDown, Splits, eq-refl, made-whole,
 use Rattle.spd_restrict.specs.Replaced.{replaced_after, down_to, replaced, IsWholeFrom}
 
 -- the leaf of a half is the tree's leaf, where the test holds or doesn't
-value-yes : (ds : List ℕ) (l : ℕ) (t : Tree) (p : List ℕ) → passes ds l p ≡ true → value_at ds 0 (yes_at l t) p ≡ value_at ds 0 t p
+pub value-yes : (ds : List ℕ) (l : ℕ) (t : Tree) (p : List ℕ) → passes ds l p ≡ true → value_at ds 0 (yes_at l t) p ≡ value_at ds 0 t p
 value-yes ds l (Ends a) p h = refl
 value-yes ds l (Tests k y n) p h = go (k == l) refl
   where
@@ -25,7 +25,7 @@ value-yes ds l (Tests k y n) p h = go (k == l) refl
         rw (i, h) refl
     go false e = refl
 
-value-no : (ds : List ℕ) (l : ℕ) (t : Tree) (p : List ℕ) → passes ds l p ≡ false → value_at ds 0 (no_at l t) p ≡ value_at ds 0 t p
+pub value-no : (ds : List ℕ) (l : ℕ) (t : Tree) (p : List ℕ) → passes ds l p ≡ false → value_at ds 0 (no_at l t) p ≡ value_at ds 0 t p
 value-no ds l (Ends a) p h = refl
 value-no ds l (Tests k y n) p h = go (k == l) refl
   where

@@ -49,11 +49,13 @@ pub fn words<R: AllocGlobal>(rt: &R, texts: &[&[u8]]) -> Result<Vec<Word>, Alloc
     Ok(words)
 }
 
-/// The message of a status, as far as it fits into 1,000 bytes.
+/// The message of a status, which fits into 1,000 bytes.
 fn message<R: AllocGlobal>(rt: &R, status: &Status) -> Result<Vec<u8>, AllocError> {
     let mut errors = MemOut::new(rt.alloc(), 1000, 7, Vec::new(rt.alloc()))?;
-    let _ = write_message(status, &mut errors);
-    errors.taken().to_vec(rt.alloc())
+    match write_message(status, &mut errors) {
+        Ok(()) => errors.taken().to_vec(rt.alloc()),
+        Err(_) => Ok(Vec::new(rt.alloc())),
+    }
 }
 
 /// What these words come to.

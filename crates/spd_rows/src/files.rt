@@ -1,4 +1,4 @@
-//! Model files of the tests, and the texts of their results.
+//! Model files of the tests.
 
 /// A variable that its only action keeps; being at `yes` is worth 1.
 pub const KEEP: &[u8] = b"(variables (x yes no))
@@ -8,22 +8,6 @@ endaction
 reward (x (yes (1)) (no (0)))
 discount 0.5
 tolerance 0.1
-";
-
-pub const KEEP_RESULT: &[u8] = b"spd result 2
-model a1e107272379ab8c6bebf4bd78c0c87b8cbb9f360f3561340e076f810c9ad9a3
-status done
-turn 5
-residual 0.015625000
-at x=yes above stay
-error 0.031250000
-value 3
-0 leaf 1.968750000
-1 leaf 0.000000000
-2 branch x 0 1
-policy 1
-0 leaf stay
-end
 ";
 
 /// The same with a discount of 0.
@@ -36,22 +20,6 @@ discount 0
 tolerance 0.1
 ";
 
-pub const KEEP_AT_ONCE_RESULT: &[u8] = b"spd result 2
-model 1d1500d0f04a1ab74dc99ba8c758fd9cf13483061dff2195035b314a3e73b9d8
-status done
-turn 0
-residual 0.000000000
-at x=yes above stay
-error 0.000000000
-value 3
-0 leaf 1.000000000
-1 leaf 0.000000000
-2 branch x 0 1
-policy 1
-0 leaf stay
-end
-";
-
 /// The same with a tolerance of 0, which no turn up to the limit meets.
 pub const KEEP_EXACTLY: &[u8] = b"(variables (x yes no))
 action stay
@@ -60,22 +28,6 @@ endaction
 reward (x (yes (1)) (no (0)))
 discount 0.5
 tolerance 0
-";
-
-pub const KEEP_EXACTLY_RESULT: &[u8] = b"spd result 2
-model 0bdb5fc78eebb1dcaa096aac69b292654a6cdd05fcc3f2ba1abe9eff7913f84b
-status limit
-turn 10000
-residual 0.000000001
-at x=yes above stay
-error 0.000000002
-value 3
-0 leaf 1.999999999
-1 leaf 0.000000000
-2 branch x 0 1
-policy 1
-0 leaf stay
-end
 ";
 
 /// The same with a second action that does what the first does.
@@ -91,20 +43,24 @@ discount 0.5
 tolerance 0.1
 ";
 
-pub const KEEP_OR_HOLD_RESULT: &[u8] = b"spd result 2
-model 753f1aa3e68a18f983b8c59843746cb5122a3bde373ee1504106c8213edd9c54
-status done
-turn 5
-residual 0.015625000
-at x=yes above stay
-error 0.031250000
-value 3
-0 leaf 1.968750000
-1 leaf 0.000000000
-2 branch x 0 1
-policy 1
-0 leaf stay
-end
+/// The same with a reward above 10^9 at both values.
+pub const KEEP_RICH: &[u8] = b"(variables (x yes no))
+action stay
+x (x (yes (x' (yes (1)) (no (0)))) (no (x' (yes (0)) (no (1)))))
+endaction
+reward [+ (1000000000) (0.000000001)]
+discount 0.5
+tolerance 0.1
+";
+
+/// The same with the greatest rewards and the greatest discount.
+pub const KEEP_FORTUNE: &[u8] = b"(variables (x yes no))
+action stay
+x (x (yes (x' (yes (1)) (no (0)))) (no (x' (yes (0)) (no (1)))))
+endaction
+reward (x (yes (1000000000)) (no (-1000000000)))
+discount 0.999999
+tolerance 0.1
 ";
 
 /// A die that is thrown anew in each step.
@@ -117,22 +73,6 @@ discount 0.5
 tolerance 0.1
 ";
 
-pub const DIE_RESULT: &[u8] = b"spd result 2
-model 8558ae0b435bf441eebbc1c6ed5323637caddf6ad9f9c1022bd1263ff6cf5bf5
-status done
-turn 3
-residual 0.020833334
-at die=one above mix
-error 0.041666668
-value 3
-0 leaf 1.291666666
-1 leaf 0.291666666
-2 branch die 0 1 1
-policy 1
-0 leaf mix
-end
-";
-
 /// A die whose probabilities sum to 0.9999.
 pub const LOADED_DIE: &[u8] = b"(variables (die one two three))
 action mix
@@ -141,4 +81,184 @@ endaction
 reward (die (one (1)) (two (0)) (three (0)))
 discount 0.5
 tolerance 0.1
+";
+
+/// A die that its only action keeps.
+pub const KEPT_DIE: &[u8] = b"(variables (die one two three))
+action stay
+die (die (one (die' (one (1)) (two (0)) (three (0)))) (two (die' (one (0)) (two (1)) (three (0)))) (three (die' (one (0)) (two (0)) (three (1)))))
+endaction
+reward (die (one (0)) (two (0.4)) (three (1)))
+discount 0.5
+tolerance 0.1
+";
+
+/// A probability below 0 beside one above 1.
+pub const DEBT: &[u8] = b"(variables (x yes no))
+action a
+x (x' (yes (-0.5)) (no (1.5)))
+endaction
+reward (0)
+discount 0
+tolerance 0
+";
+
+/// Four variables that their only action keeps, with rewards 1 to 16.
+pub const FOUR_KEPT: &[u8] = b"(variables (a yes no) (b yes no) (c yes no) (d yes no))
+action stay
+a (a (yes (a' (yes (1)) (no (0)))) (no (a' (yes (0)) (no (1)))))
+b (b (yes (b' (yes (1)) (no (0)))) (no (b' (yes (0)) (no (1)))))
+c (c (yes (c' (yes (1)) (no (0)))) (no (c' (yes (0)) (no (1)))))
+d (d (yes (d' (yes (1)) (no (0)))) (no (d' (yes (0)) (no (1)))))
+endaction
+reward (a (yes (b (yes (c (yes (d (yes (1)) (no (2)))) (no (d (yes (3)) (no (4)))))) (no (c (yes (d (yes (5)) (no (6)))) (no (d (yes (7)) (no (8)))))))) (no (b (yes (c (yes (d (yes (9)) (no (10)))) (no (d (yes (11)) (no (12)))))) (no (c (yes (d (yes (13)) (no (14)))) (no (d (yes (15)) (no (16)))))))))
+discount 0.5
+tolerance 1
+";
+
+/// A robot fetches coffee; rain makes it wet.
+pub const COFFEE_ROBOT: &[u8] = b"// A robot fetches coffee; rain makes it wet.
+(variables (huc yes no) (hrc yes no) (wet yes no)
+           (rain yes no) (umb yes no) (loc office shop))
+dd keephuc (huc (yes (huc' (yes (1)) (no (0)))) (no (huc' (yes (0)) (no (1))))) enddd
+dd keephrc (hrc (yes (hrc' (yes (1)) (no (0)))) (no (hrc' (yes (0)) (no (1))))) enddd
+dd keepwet (wet (yes (wet' (yes (1)) (no (0)))) (no (wet' (yes (0)) (no (1))))) enddd
+dd keeprain (rain (yes (rain' (yes (1)) (no (0)))) (no (rain' (yes (0)) (no (1))))) enddd
+dd keepumb (umb (yes (umb' (yes (1)) (no (0)))) (no (umb' (yes (0)) (no (1))))) enddd
+dd keeploc (loc (office (loc' (office (1)) (shop (0)))) (shop (loc' (office (0)) (shop (1))))) enddd
+dd getswet (rain (yes (umb (yes (keepwet)) (no (wet' (yes (1)) (no (0)))))) (no (keepwet))) enddd
+action move
+  huc (keephuc) hrc (keephrc) wet (getswet) rain (keeprain) umb (keepumb)
+  loc (loc (office (loc' (office (0.1)) (shop (0.9)))) (shop (loc' (office (0.9)) (shop (0.1)))))
+  cost (0.05)
+endaction
+action buy
+  huc (keephuc)
+  hrc (hrc (yes (keephrc)) (no (loc (office (keephrc)) (shop (hrc' (yes (0.9)) (no (0.1)))))))
+  wet (keepwet) rain (keeprain) umb (keepumb) loc (keeploc)
+  cost (0.1)
+endaction
+action deliver
+  huc (huc (yes (keephuc)) (no (loc (office (hrc (yes (huc' (yes (0.8)) (no (0.2)))) (no (keephuc)))) (shop (keephuc)))))
+  hrc (hrc' (yes (0)) (no (1)))
+  wet (keepwet) rain (keeprain) umb (keepumb) loc (keeploc)
+endaction
+action getumbrella
+  huc (keephuc) hrc (keephrc) wet (keepwet) rain (keeprain)
+  umb (umb (yes (keepumb)) (no (loc (office (umb' (yes (0.9)) (no (0.1)))) (shop (keepumb)))))
+  loc (keeploc)
+endaction
+reward [+ (huc (yes (0.9)) (no (0))) (wet (yes (0)) (no (0.1)))]
+discount 0.9
+tolerance 0.01
+";
+
+/// A variable with one value.
+pub const ONLY: &[u8] = b"(variables (x only))
+action a
+x (x' (only (1)))
+endaction
+reward (5)
+discount 0.5
+tolerance 100
+";
+
+/// The same with the least loss, and a tolerance of 0.
+pub const ONLY_LOSES: &[u8] = b"(variables (x only))
+action a
+x (x' (only (1)))
+endaction
+reward (-0.000000001)
+discount 0.5
+tolerance 0
+";
+
+/// A variable that follows the next value of a later one.
+pub const FOLLOWS: &[u8] = b"(variables (x yes no) (y yes no))
+action go
+x (y' (yes (x' (yes (1)) (no (0)))) (no (x' (yes (0)) (no (1)))))
+y (y (yes (y' (yes (1)) (no (0)))) (no (y' (yes (0)) (no (1)))))
+endaction
+reward (x (yes (1)) (no (0)))
+discount 0.5
+tolerance 0.1
+";
+
+/// A lamp that is always on, which is worth 1 in each step.
+pub const LAMP: &[u8] = b"(variables (lamp on))
+action stay
+lamp (1)
+endaction
+reward (1)
+discount 0.5
+tolerance 0.1
+";
+
+/// The same, where the lamp is on with a probability of 0.9999.
+pub const LAMP_FAILS: &[u8] = b"(variables (lamp on))
+action stay
+lamp (0.9999)
+endaction
+reward (1)
+discount 0.5
+tolerance 0.1
+";
+
+/// The same, where it is worth one unit more than 10^9.
+pub const LAMP_SHINES: &[u8] = b"(variables (lamp on))
+action stay
+lamp (1)
+endaction
+reward (1000000000.000000001)
+discount 0.5
+tolerance 0.1
+";
+
+/// Four variables of one to four values, with diagrams, costs and an arc between next values.
+pub const MIXED: &[u8] = b"// Values one to four, arcs, costs, sums and names.
+(variables (fuel low 2.5 on c) (crop 2.5) (door d low 2.5) (road 1 d))
+dd next-fuel (crop (2.5 (fuel' (low (0)) (2.5 (1)) (on (0)) (c (0))))) enddd
+dd next-crop (crop' (2.5 (1))) enddd
+dd next-door (door' (d (0.132414545822)) (low (0.016409102201)) (2.5 (0.851176351977))) enddd
+dd next-road (fuel (low (door (d (road' (1 (0.602240650979)) (d (0.397759349021)))) (low (road' (1 (0.75891932961)) (d (0.24108067039)))) (2.5 (road' (1 (0.29)) (d (0.71)))))) (2.5 (road' (1 (0.191103393457)) (d (0.808896606543)))) (on (door (d (road' (1 (0.500669988773)) (d (0.499330011227)))) (low (road' (1 (0.748291973611)) (d (0.251708026389)))) (2.5 (road' (1 (0.96)) (d (0.04)))))) (c (door (d (road' (1 (0.399301639002)) (d (0.600698360998)))) (low (road' (1 (0.25)) (d (0.75)))) (2.5 (road' (1 (0.986755677484)) (d (0.013244322516))))))) enddd
+action act0
+door (crop (2.5 (road' (d (door' (d (0.3)) (low (0.15)) (2.5 (0.55)))) (1 (door' (d (0.645141377737)) (low (0.111117102715)) (2.5 (0.243741519548)))))))
+fuel (door (d (crop' (2.5 (fuel' (low (0.15)) (2.5 (0.03)) (on (0.14)) (c (0.68)))))) (low (crop' (2.5 (fuel' (low (0.47)) (2.5 (0.07)) (on (0.36)) (c (0.1)))))) (2.5 (crop' (2.5 (fuel' (low (0.433214484345)) (2.5 (0.022222680668)) (on (0.202615453859)) (c (0.341947381128)))))))
+crop (road (1 (door' (low (crop' (2.5 (1)))) (d (crop' (2.5 (1)))) (2.5 (crop' (2.5 (1)))))) (d (door' (d (crop' (2.5 (1)))) (2.5 (crop' (2.5 (1)))) (low (crop' (2.5 (1)))))))
+road (next-road)
+cost (door (d (0)) (low (0.294854831)) (2.5 (0)))
+endaction
+action act1
+crop (crop' (2.5 (1)))
+road (door (d (crop (2.5 (road' (1 (0.592869443847)) (d (0.407130556153)))))) (low (crop (2.5 (road' (1 (1)) (d (0)))))) (2.5 (crop (2.5 (road' (1 (1)) (d (0)))))))
+door (road (1 (door' (d (0.67)) (low (0.14)) (2.5 (0.19)))) (d (door' (d (0.126267660065)) (low (0.765820479859)) (2.5 (0.107911860076)))))
+fuel (next-fuel)
+endaction
+reward [+ (fuel (low (door (d (0)) (low (0)) (2.5 (-0.378442877)))) (2.5 (door (d (0)) (low (0.8)) (2.5 (0)))) (on (door (d (0)) (low (-0.556045958)) (2.5 (1)))) (c (door (d (0)) (low (-0.10460433)) (2.5 (-0.359359552))))) (door (d (-0.136259584)) (low (-0.2)) (2.5 (-0.8)))]
+discount 0.75
+tolerance 0.05
+";
+
+/// A lamp that two switches work: each production of the grammar.
+pub const ALL: &[u8] = b"// Uses every production of the grammar: a lamp that two switches work.
+(variables (lamp off dim on) (left up down) (right up down)) // seven values
+dd kept (left (up (left' (up (1)) (down (0)))) (down (left' (up (0)) (down (1))))) enddd
+dd fee (0.25) enddd
+dd fees (lamp (off (0)) (dim (fee)) (on (fee))) enddd
+action press
+lamp (left' (up (right' (up (lamp' (off (0)) (dim (0)) (on (1)))) (down (lamp' (off (0)) (dim (1)) (on (0))))))
+     (down (lamp' (off (.9)) (dim (5e-2)) (on (0.05)))))
+left (left' (up (0.5)) (down (0.5)))
+right (right (up (right' (up (1)) (down (0)))) (down (right' (up (0)) (down (1)))))
+cost (fees)
+endaction
+action wait
+cost [+ (fee) (-0.25)]
+right (0.5) left (kept)
+lamp (lamp (off (lamp' (off (1)) (dim (0)) (on (0)))) (dim (lamp' (off (0)) (dim (1)) (on (0)))) (on (lamp' (off (0)) (dim (0)) (on (1)))))
+endaction
+discount 0.5
+tolerance 0.125
+reward [+ (lamp (on (1)) (dim (0.5)) (off (0))) (left (up (0)) (down (0.125)))]
+horizon 12
 ";

@@ -13,3 +13,7 @@ mod outside;
 mod refused;
 #[cfg(test)]
 mod solved;
+#[cfg(test)]
+mod texts;
+#[cfg(test)]
+mod words;

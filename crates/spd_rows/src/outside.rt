@@ -1,7 +1,8 @@
 //! An outside where one call fails: the open, a read or a write.
 use crate::command::{Answer, Outside, run, solve};
-use crate::files::{KEEP, KEEP_RESULT};
-use crate::refused::assert_solved;
+use crate::files::{COFFEE_ROBOT, KEEP};
+use crate::refused::assert_ended;
+use crate::texts::{COFFEE_ROBOT_RESULT, KEEP_RESULT};
 use std::process::Abort;
 use std::test::Fail;
 
@@ -89,6 +90,19 @@ fn write_fails(rt: HostRuntime) -> Result<(), Fail> {
     Ok(())
 }
 
+/// An output that takes 16 bytes a call, and whose third call fails.
+#[test]
+fn third_write_fails(rt: HostRuntime) -> Result<(), Fail> {
+    let outside = Outside {
+        failing_writes: &[2],
+        ..Outside::calm(COFFEE_ROBOT, 16)
+    };
+    let answer = run(&rt, SOLVE, outside)?;
+    assert_eq!(rt; answer.number, 12);
+    assert_eq!(rt; answer.output.as_slice(), &COFFEE_ROBOT_RESULT[..32]);
+    Ok(())
+}
+
 #[test]
 fn output_is_full(rt: HostRuntime) -> Result<(), Fail> {
     for most in [1, 16, 4096] {
@@ -117,11 +131,8 @@ fn padded<R: AllocGlobal>(rt: &R, len: usize) -> Result<Vec<u8>, Fail> {
 
 #[test]
 fn longest_file(rt: HostRuntime) -> Result<(), Fail> {
-    assert_solved(
-        &rt,
-        "the longest file",
-        &solve(&rt, &padded(&rt, FILE_LIMIT)?)?,
-    );
+    let longest = padded(&rt, FILE_LIMIT)?;
+    assert_ended(&rt, "the longest file", &solve(&rt, &longest)?, 0, "");
     let too_long = padded(&rt, FILE_LIMIT + 1)?;
     assert_answer(&rt, &solve(&rt, &too_long)?, 4, "m is too long\n", 0);
     Ok(())

@@ -1,35 +1,190 @@
-//! Files that are solved, and sums that aren't one.
-use crate::command::{Outside, run, solve};
+//! Results of whole runs: each file by `solve` and by `plain`.
+use crate::command::{Outside, run};
 use crate::files::*;
+use crate::texts::*;
+use std::process::Abort;
 use std::test::Fail;
+
+/// A run: what it shows, the file, the options, and the status, the message and the text that it comes to.
+type Row = (
+    &'static str,
+    &'static [u8],
+    &'static [&'static [u8]],
+    u8,
+    &'static str,
+    &'static [u8],
+);
+
+/// Of a variable that its action keeps.
+const KEPT: &[Row] = &[
+    ("keep", KEEP, &[], 0, "", KEEP_RESULT),
+    ("discount 0", KEEP_AT_ONCE, &[], 0, "", KEEP_AT_ONCE_RESULT),
+    (
+        "tolerance 0",
+        KEEP_EXACTLY,
+        &[],
+        8,
+        "turn limit reached, residual 0.000000001\n",
+        KEEP_EXACTLY_RESULT,
+    ),
+    ("a tie", KEEP_OR_HOLD, &[], 0, "", KEEP_OR_HOLD_RESULT),
+    (
+        "a turn limit of 2",
+        KEEP,
+        &[b"--turns", b"2"],
+        8,
+        "turn limit reached, residual 0.125000000\n",
+        KEEP_TURNS_2_RESULT,
+    ),
+    (
+        "a turn limit in one word",
+        KEEP,
+        &[b"--turns=2"],
+        8,
+        "turn limit reached, residual 0.125000000\n",
+        KEEP_TURNS_2_RESULT,
+    ),
+    (
+        "a reward above its limit",
+        KEEP_RICH,
+        &[],
+        7,
+        "reward of action stay at x=yes is 1000000000.000000001\n",
+        b"",
+    ),
+    (
+        "great rewards, two turns",
+        KEEP_FORTUNE,
+        &[b"--turns", b"2"],
+        8,
+        "turn limit reached, residual 999997000.002999999\n",
+        KEEP_FORTUNE_TURNS_2_RESULT,
+    ),
+    (
+        "great rewards, fifty turns",
+        KEEP_FORTUNE,
+        &[b"--turns", b"50"],
+        8,
+        "turn limit reached, residual 999949001.274979176\n",
+        KEEP_FORTUNE_TURNS_50_RESULT,
+    ),
+];
+
+/// Of dice.
+const DICE: &[Row] = &[
+    ("a die", DIE, &[], 0, "", DIE_RESULT),
+    (
+        "a sum below one",
+        LOADED_DIE,
+        &[],
+        6,
+        "sum of action mix, variable die at die=one is 0.999900000000\n",
+        b"",
+    ),
+    ("a kept die", KEPT_DIE, &[], 0, "", KEPT_DIE_RESULT),
+    (
+        "ranges of values",
+        KEPT_DIE,
+        &[b"--span", b"1", b"--turns", b"1"],
+        8,
+        "turn limit reached, residual 0.250000000\n",
+        KEPT_DIE_SPAN_1_TURNS_1_RESULT,
+    ),
+    (
+        "a negative probability",
+        DEBT,
+        &[],
+        5,
+        "refused at byte 44: negative\n",
+        b"",
+    ),
+];
+
+/// Of one state.
+const ONE_STATE: &[Row] = &[
+    ("one value", ONLY, &[], 0, "", ONLY_RESULT),
+    ("the least loss", ONLY_LOSES, &[], 0, "", ONLY_LOSES_RESULT),
+    (
+        "the least loss at once",
+        ONLY_LOSES,
+        &[b"--turns", b"0"],
+        8,
+        "turn limit reached, residual 0.000000001\n",
+        ONLY_LOSES_TURNS_0_RESULT,
+    ),
+    ("one state", LAMP, &[], 0, "", LAMP_RESULT),
+    (
+        "one state, two turns",
+        LAMP,
+        &[b"--turns", b"2"],
+        8,
+        "turn limit reached, residual 0.125000000\n",
+        LAMP_TURNS_2_RESULT,
+    ),
+    (
+        "one state, a sum below one",
+        LAMP_FAILS,
+        &[],
+        6,
+        "sum of action stay, variable lamp at lamp=on is 0.999900000000\n",
+        b"",
+    ),
+    (
+        "one state, a reward above its limit",
+        LAMP_SHINES,
+        &[],
+        7,
+        "reward of action stay at lamp=on is 1000000000.000000001\n",
+        b"",
+    ),
+];
+
+/// Of several variables.
+const SEVERAL: &[Row] = &[
+    ("four variables", FOUR_KEPT, &[], 0, "", FOUR_KEPT_RESULT),
+    (
+        "the coffee robot",
+        COFFEE_ROBOT,
+        &[],
+        0,
+        "",
+        COFFEE_ROBOT_RESULT,
+    ),
+    (
+        "next values that follow next values",
+        FOLLOWS,
+        &[],
+        0,
+        "",
+        FOLLOWS_RESULT,
+    ),
+];
+
+/// Of all that the grammar can say.
+const ALL_FORMS: &[Row] = &[
+    ("several of all", MIXED, &[], 0, "", MIXED_RESULT),
+    ("each production", ALL, &[], 0, "", ALL_RESULT),
+];
+
+/// Runs a command on each row.
+fn assert_rows<R: AllocGlobal + Abort>(rt: &R, command: &[u8], rows: &[Row]) -> Result<(), Fail> {
+    for (what, file, options, number, message, output) in rows {
+        let mut words = vec![in rt.alloc(); command, b"m"]?;
+        words.extend_from_slice(options)?;
+        let answer = run(rt, &words, Outside::calm(file, 4096))?;
+        assert_eq!(rt; answer.number, *number, "{what}");
+        assert_eq!(rt; answer.message.as_slice(), message.as_bytes(), "{what}");
+        assert_eq!(rt; answer.output.as_slice(), *output, "{what}");
+    }
+    Ok(())
+}
 
 #[test]
 fn results(rt: HostRuntime) -> Result<(), Fail> {
-    let cases = [
-        ("keep", KEEP, 0, "", KEEP_RESULT),
-        ("discount 0", KEEP_AT_ONCE, 0, "", KEEP_AT_ONCE_RESULT),
-        ("tie", KEEP_OR_HOLD, 0, "", KEEP_OR_HOLD_RESULT),
-        ("die", DIE, 0, "", DIE_RESULT),
-        (
-            "tolerance 0",
-            KEEP_EXACTLY,
-            8,
-            "turn limit reached, residual 0.000000001\n",
-            KEEP_EXACTLY_RESULT,
-        ),
-        (
-            "a sum below one",
-            LOADED_DIE,
-            6,
-            "sum of action mix, variable die at die=one is 0.999900000000\n",
-            b"",
-        ),
-    ];
-    for (what, file, number, message, output) in cases {
-        let answer = solve(&rt, file)?;
-        assert_eq!(rt; answer.number, number, "{what}");
-        assert_eq!(rt; answer.message.as_slice(), message.as_bytes(), "{what}");
-        assert_eq!(rt; answer.output.as_slice(), output, "{what}");
+    for command in [b"solve".as_slice(), b"plain"] {
+        for rows in [KEPT, DICE, ONE_STATE, SEVERAL, ALL_FORMS] {
+            assert_rows(&rt, command, rows)?;
+        }
     }
     Ok(())
 }
@@ -41,45 +196,6 @@ fn byte_by_byte(rt: HostRuntime) -> Result<(), Fail> {
         let answer = run(&rt, &[b"solve", b"m"], Outside::calm(KEEP, most))?;
         assert_eq!(rt; answer.number, 0);
         assert_eq!(rt; answer.output.as_slice(), KEEP_RESULT);
-    }
-    Ok(())
-}
-
-/// Every front of a file: refused, but where its last number is whole.
-#[test]
-fn cut_files(rt: HostRuntime) -> Result<(), Fail> {
-    assert_eq!(rt; KEEP.len(), 167);
-    for len in 0..167 {
-        let number = match len {
-            // `tolerance 0`, which no turn meets
-            164 => 8,
-            // `tolerance 0.1` without its LF
-            166 => 0,
-            _ => 5,
-        };
-        assert_eq!(rt; solve(&rt, &KEEP[..len])?.number, number, "{len} bytes");
-    }
-    Ok(())
-}
-
-#[test]
-fn words_that_cannot_stand(rt: HostRuntime) -> Result<(), Fail> {
-    let cases: [(&[&[u8]], &str); 9] = [
-        (&[], "usage: word 0\n"),
-        (&[b"frob"], "usage: word 0\n"),
-        (&[b"check", b"m"], "usage: word 0\n"),
-        (&[b"solve"], "usage: word 1\n"),
-        (&[b"solve", b""], "usage: word 1\n"),
-        (&[b"solve", b"-m"], "usage: word 1\n"),
-        (&[b"solve", b"m", b"n"], "usage: word 2\n"),
-        (&[b"solve", b"m", b"--workers", b"2"], "usage: word 2\n"),
-        (&[b"solve", b"--", b"m"], "usage: word 1\n"),
-    ];
-    for (texts, message) in cases {
-        let answer = run(&rt, texts, Outside::calm(KEEP, 4096))?;
-        assert_eq!(rt; answer.number, 2);
-        assert_eq!(rt; answer.message.as_slice(), message.as_bytes());
-        assert_eq!(rt; answer.output.as_slice(), b"".as_slice());
     }
     Ok(())
 }

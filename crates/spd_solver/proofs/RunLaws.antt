@@ -1,117 +1,193 @@
 -- What the stages of a command come to, for the command as a whole.
-use Rattle.std.proofs.Common.{◌≡◌, ℕ, ◌≤◌, List, length, ℤ, Option, Some, None, IfSome, refl, sym, ap, subst, ◌∙◌, arith}
+use Rattle.std.proofs.Common.{◌≡◌, ◌↔◌, ℕ, ◌<◌, ◌≤◌, List, length, ℤ, Option, Some, None, IfSome, Result, refl, sym, ap, subst, ◌∙◌}
 use Rattle.std.proofs.lemmas.Option.{same_Some, none-some}
 use Rattle.sha2.specs.Sha256.{sha256}
 use Rattle.spd_edge.specs.Told.{Took, TookFront}
 use Rattle.spd_edge.specs.Counts.{Rose}
+use Rattle.spd_edge.specs.declared.outside.Stage.TheVariants as Stage
 use Rattle.spd_model.specs.declared.Why.{Why}
+use Rattle.spd_model.specs.declared.options.Options.{Options}
 use Rattle.spd_model.specs.Process.{Process}
-use Rattle.spd_model.specs.Chances.{IsValid}
 use Rattle.spd_model.specs.Turns.{stop_of}
 use Rattle.spd_model.specs.ResultText.{Iterate, text_of}
 use Rattle.spd_frozen.specs.Told.{told}
-use Rattle.spd_model.specs.declared.options.Options.{Options}
+use Rattle.spd_syntax.specs.declared.unread.Unread.{Unread}
+use Rattle.spd_syntax.specs.declared.unread.Unread.TheVariants as Unread
+use Rattle.spd_reader.specs.Reading.{IsRead, TellsRefusal as TellsFault}
+use Rattle.spd_solver.specs.declared.file.Unreadable.{Unreadable}
+use Rattle.spd_solver.specs.declared.file.Unreadable.TheVariants as Unreadable
 use Rattle.spd_solver.specs.declared.solving.Solution.{Solution}
 use Rattle.spd_solver.specs.declared.solving.Unsolved.{Unsolved}
-use Rattle.spd_solver.specs.declared.small.unread.Unread.{Unread}
-use Rattle.spd_solver.specs.declared.status.Status.TheVariants.{Done, TurnLimit, WriteFault}
-use Rattle.spd_solver.specs.Command.{Command, solve}
-use Rattle.spd_solver.specs.Describes.{Describes}
-use Rattle.spd_solver.specs.Kind.{Kind, whole, kind_of}
-use Rattle.spd_solver.specs.Run.{Ends, Accepts, Completes, Seen, ReadsCalmly, IsUnwritten, Means}
-use Rattle.spd_solver.specs.Solve.{residual, TellsStop, HasFewStates, RefusesProcess}
-use Rattle.spd_solver.specs.inner.Stages.{IsSolution, finished_status, unread_status, unsolved_status}
-use Rattle.spd_solver.proofs.SmallReadLaws.{one_process}
+use Rattle.spd_solver.specs.declared.status.Status.{Status}
+use Rattle.spd_solver.specs.declared.status.Status.TheVariants as S
+use Rattle.spd_solver.specs.Command.{Way, Command, solving, AskFor, OnCommand, IsUsage}
+use Rattle.spd_solver.specs.Kind.{Kind, whole, refusal, kind_of}
+use Rattle.spd_solver.specs.Run.{Ends, Refuses, HoldsRefused, HoldsAccepted, Seen, ReadsCalmly, IsUnwritten, Means, Completes, TellsRefusal}
+use Rattle.spd_solver.specs.Solve.{residual, file_limit, IsFileOf, TellsStop, RefusesFile}
+use Rattle.spd_solver.specs.inner.Stages.{IsSolution, IsUnsolved, FailsToRead, Asks, AskWrongly, Answers, ending, finished_status, unreadable_status, unread_status, unsolved_status}
+use Rattle.spd_solver.proofs.Causes.{file_once, file_right}
 
 -- what is said of the bytes that were read is said of those that the place holds
 held_of : (o : Option (List ℕ)) (bytes : List ℕ) (P : List ℕ → Type 0) → IfSome o (λ held. bytes ≡ held) → P bytes → IfSome o P
 held_of None bytes P same p = tt
 held_of (Some held) bytes P same p = subst P same p
 
--- the bytes that were read are those that the place holds
-same_bytes : (o : Option (List ℕ)) (bytes held : List ℕ) → IfSome o (λ held. bytes ≡ held) → o ≡ Some held → bytes ≡ held
-same_bytes None bytes held same is = absurd (none-some held is)
-same_bytes (Some other) bytes held same is = same ∙ same_Some other held is
+-- what is said of the bytes that the place holds, where it tells them
+told_of : (o : Option (List ℕ)) (bytes : List ℕ) (P : List ℕ → Type 0) → IfSome o P → o ≡ Some bytes → P bytes
+told_of None bytes P p is = absurd (none-some bytes is)
+told_of (Some held) bytes P p is = subst P (same_Some held bytes is) p
 
 tells_stop : (m : Process) (options : Options) (why : Why) (r : ℤ) → why ≡ (stop_of m options.turns options.span).why → r ≡ residual m options
-    → TellsStop m options (elim why [ Why.Done ↦ Done | Why.Limit ↦ TurnLimit r ])
+    → TellsStop m options (elim why [ Why.Done ↦ S.Done | Why.Limit ↦ S.TurnLimit r ])
 tells_stop m options Why.Done r why is = sym why
 tells_stop m options Why.Limit r why is = (sym why, is)
 
 -- a run that was finished ends with its whole text
-finished_whole : (why : Why) (r : ℤ) → kind_of (elim why [ Why.Done ↦ Done | Why.Limit ↦ TurnLimit r ]) ≡ whole
+finished_whole : (why : Why) (r : ℤ) → kind_of (elim why [ Why.Done ↦ S.Done | Why.Limit ↦ S.TurnLimit r ]) ≡ whole
 finished_whole Why.Done r = refl
 finished_whole Why.Limit r = refl
 
-pub finished_complete : (x : Solution) (command : Command) (held : List ℕ → Option (List ℕ)) → Completes (kind_of (finished_status x)) command held
-finished_complete x command held = subst (λ (k : Kind). Completes k command held) (sym (finished_whole x.why x.iterate.residual.r)) tt
-
 -- a file of this name was read, and nothing was written
-pub record IsRead (file bytes : List ℕ) (before now : Seen) : Type 0 where
+pub record WasRead (file bytes : List ℕ) (before now : Seen) : Type 0 where
   pub held : IfSome (before.inputs.holds file) (λ held. bytes ≡ held)
-  pub short : length bytes ≤ 4194304
+  pub short : length bytes ≤ file_limit
   pub calm : ReadsCalmly before now
 
-pub is_read : (file items bytes : List ℕ) (before now : Seen) → bytes ≡ items → IfSome (before.inputs.holds file) (λ held. items ≡ held)
-    → length items ≤ 4194304 → ReadsCalmly before now → IsRead file bytes before now
-is_read file items bytes before now same held short calm =
-    subst (λ (b : List ℕ). IsRead file b before now) (sym same) (record { held = held; short = short; calm = calm })
+pub was_read : (file items bytes : List ℕ) (before now : Seen) → bytes ≡ items → IfSome (before.inputs.holds file) (λ held. items ≡ held)
+    → length items ≤ file_limit → ReadsCalmly before now → WasRead file bytes before now
+was_read file items bytes before now same held short calm =
+    subst (λ (b : List ℕ). WasRead file b before now) (sym same) (record { held = held; short = short; calm = calm })
 
-module _ (file bytes : List ℕ) (options : Options) (before now : Seen) (read : IsRead file bytes before now) where
+module _ (way : Way) (file : List ℕ) (options : Options) (before now : Seen) where
   -- ---- what is refused
 
-  pub unread_means : (why : Unread) → (why ≡ Unread.Refused → (m : Process) → Describes bytes m → ⊥) → IsUnwritten before now
-      → Means (kind_of (unread_status why)) (solve file options) (unread_status why) before now
-  unread_means Unread.Refused cause unwritten = (held_of (before.inputs.holds file) bytes _ read.held (read.short, cause refl), unwritten, read.calm)
-  unread_means Unread.Memory cause unwritten = unwritten
+  -- a refusal that has its cause
+  refused_answers : (s : Status) → kind_of s ≡ refusal → Refuses (solving way file options) before.inputs.holds s → IsUnwritten before now → ReadsCalmly before now
+      → Answers (solving way file options) s before now
+  refused_answers s kind cause unwritten calm =
+      let told = λ (bytes : List ℕ) (is : before.inputs.holds file ≡ Some bytes). told_of (before.inputs.holds file) bytes (λ (b : List ℕ). RefusesFile file b s) cause is in
+      record {
+        means = subst (λ (k : Kind). Means k (solving way file options) s before now) (sym kind) (cause, unwritten, calm);
+        completes = subst (λ (k : Kind). Completes k (solving way file options) before.inputs.holds) (sym kind)
+            (λ accepted. file_right file accepted.0 accepted.1 accepted.3 accepted.4 accepted.5 s (told accepted.0 accepted.2));
+        tells = subst (λ (k : Kind). TellsRefusal k (solving way file options) before.inputs.holds s) (sym kind)
+            (λ other refused. file_once file refused.0 s other (told refused.0 refused.1) refused.2);
+      }
 
-  pub unsolved_means : (m : Process) → Describes bytes m → (why : Unsolved) → RefusesProcess m (unsolved_status why) → IsUnwritten before now
-      → Means (kind_of (unsolved_status why)) (solve file options) (unsolved_status why) before now
-  unsolved_means m is (Unsolved.TooManyStates product) cause unwritten =
-      (held_of (before.inputs.holds file) bytes _ read.held (m, record { short = read.short; describes = is }, cause), unwritten, read.calm)
-  unsolved_means m is (Unsolved.Sum action var state sum) cause unwritten =
-      (held_of (before.inputs.holds file) bytes _ read.held (m, record { short = read.short; describes = is }, cause), unwritten, read.calm)
-  unsolved_means m is (Unsolved.Range action state value) cause unwritten =
-      (held_of (before.inputs.holds file) bytes _ read.held (m, record { short = read.short; describes = is }, cause), unwritten, read.calm)
-  unsolved_means m is Unsolved.Memory cause unwritten = unwritten
+  pub memory_answers : IsUnwritten before now → Answers (solving way file options) S.Memory before now
+  memory_answers unwritten = record { means = unwritten; completes = tt; tells = tt }
 
-  pub unread_complete : (why : Unread) → (why ≡ Unread.Refused → (m : Process) → Describes bytes m → ⊥)
-      → Completes (kind_of (unread_status why)) (solve file options) before.inputs.holds
-  unread_complete Unread.Refused cause = λ accepts.
-      cause refl accepts.1 (subst (λ (b : List ℕ). Describes b accepts.1) (sym (same_bytes (before.inputs.holds file) bytes accepts.0 read.held accepts.2)) accepts.3.describes)
-  unread_complete Unread.Memory cause = tt
+  pub unreadable_answers : (why : Unreadable) → FailsToRead before.inputs now.inputs file file_limit why → IsUnwritten before now
+      → Answers (solving way file options) (unreadable_status why) before now
+  unreadable_answers (Unreadable.Open name) cause unwritten =
+      let P = λ (n : List ℕ). (n ≡ file) × Rose (before.inputs.faults n) (now.inputs.faults n) × (now.inputs.stage n ≡ Some Stage.Unopened) in
+      record { means = (subst P (sym cause.0) (refl, cause.1, cause.2), unwritten); completes = tt; tells = tt }
+  unreadable_answers (Unreadable.Read name) cause unwritten =
+      let P = λ (n : List ℕ). (n ≡ file) × Rose (before.inputs.faults n) (now.inputs.faults n) × (now.inputs.stage n ≡ Some Stage.Closed) in
+      record { means = (subst P (sym cause.0) (refl, cause.1, cause.2), unwritten); completes = tt; tells = tt }
+  unreadable_answers (Unreadable.TooLong name) cause unwritten =
+      refused_answers (S.TooLong name) refl
+      (too_long (before.inputs.holds file) cause.0 cause.2) unwritten cause.1
+      where
+        too_long : (o : Option (List ℕ)) → name ≡ file → IfSome o (λ bytes. file_limit < length bytes) → IfSome o (λ bytes. RefusesFile file bytes (S.TooLong name))
+        too_long None named long = tt
+        too_long (Some bytes) named long = (named, long)
+  unreadable_answers Unreadable.Memory cause unwritten = memory_answers unwritten
 
-  -- the process that was read is the accepted one
-  accepted : (m : Process) → Describes bytes m → Accepts (solve file options) before.inputs.holds → IsValid m × HasFewStates m
-  accepted m is accepts =
-      let same = same_bytes (before.inputs.holds file) bytes accepts.0 read.held accepts.2 in
-      subst (λ (n : Process). IsValid n × HasFewStates n) (one_process bytes accepts.1 m (subst (λ (b : List ℕ). Describes b accepts.1) (sym same) accepts.3.describes) is)
-      (accepts.4, accepts.5)
+  module _ (bytes : List ℕ) (read : WasRead file bytes before now) where
+    -- the file that was read is refused
+    read_refused : (s : Status) → kind_of s ≡ refusal → RefusesFile file bytes s → IsUnwritten before now → Answers (solving way file options) s before now
+    read_refused s kind cause unwritten =
+        refused_answers s kind (held_of (before.inputs.holds file) bytes (λ (b : List ℕ). RefusesFile file b s) read.held cause) unwritten read.calm
 
-  pub unsolved_complete : (m : Process) → Describes bytes m → (why : Unsolved) → RefusesProcess m (unsolved_status why)
-      → Completes (kind_of (unsolved_status why)) (solve file options) before.inputs.holds
-  unsolved_complete m is (Unsolved.TooManyStates product) cause = λ accepts. absurd (omega (arith, cause.0, (accepted m is accepts).1))
-  unsolved_complete m is (Unsolved.Sum action var state sum) cause = λ accepts. cause.4 (accepted m is accepts).0
-  unsolved_complete m is (Unsolved.Range action state value) cause = λ accepts. cause.5 (accepted m is accepts).0
-  unsolved_complete m is Unsolved.Memory cause = tt
+    pub unread_answers : (why : Unread) → TellsFault bytes why → IsUnwritten before now → Answers (solving way file options) (unread_status why) before now
+    unread_answers (Unread.Refused fault) cause unwritten = read_refused (S.Refused fault) refl (read.short, cause) unwritten
+    unread_answers Unread.Memory cause unwritten = memory_answers unwritten
 
-  module _ (digest : List ℕ) (named : digest ≡ sha256 bytes) (m : Process) (x : Solution) (is : Describes bytes m) (h : IsSolution m options x) where
-    ended : Ends (solve file options) before.inputs.holds (finished_status x) (text_of digest m x.why (told x.iterate))
-    ended = held_of (before.inputs.holds file) bytes _ read.held (record {
-      process = m;
-      file = record { short = read.short; describes = is };
-      valid = h.valid;
-      stop = tells_stop m options x.why x.iterate.residual.r h.why (ap (λ (i : Iterate). i.residual) h.iterate);
-      written = (λ i. text_of (named i) m (h.why i) (h.iterate i));
-      near_optimal = h.near_optimal;
-    })
+    module _ (m : Process) (is : IsRead bytes m) where
+      file_is : IsFileOf bytes m
+      file_is = record { short = read.short; reads = is }
 
-    pub cut_means : TookFront before.taken (text_of digest m x.why (told x.iterate)) now.taken → Rose before.faults now.faults
-        → Means (kind_of WriteFault) (solve file options) WriteFault before now
-    cut_means front rose = (text_of digest m x.why (told x.iterate), finished_status x, ended, front, rose, read.calm)
+      pub unsolved_answers : (why : Unsolved) → IsUnsolved m why → IsUnwritten before now → Answers (solving way file options) (unsolved_status why) before now
+      unsolved_answers (Unsolved.TooManyStates product) cause unwritten = read_refused (S.TooManyStates product) refl (m, file_is, cause) unwritten
+      unsolved_answers (Unsolved.Sum action var state sum) cause unwritten = read_refused (S.Sum action var state sum) refl (m, file_is, cause) unwritten
+      unsolved_answers (Unsolved.Range action state value) cause unwritten = read_refused (S.Range action state value) refl (m, file_is, cause) unwritten
+      unsolved_answers Unsolved.Memory cause unwritten = memory_answers unwritten
 
-    pub whole_means : Took before.taken (text_of digest m x.why (told x.iterate)) now.taken → now.faults ≡ before.faults
-        → Means (kind_of (finished_status x)) (solve file options) (finished_status x) before now
-    whole_means took same =
-        subst (λ (k : Kind). Means k (solve file options) (finished_status x) before now) (sym (finished_whole x.why x.iterate.residual.r))
-        (text_of digest m x.why (told x.iterate), ended, took, same, read.calm)
+      -- ---- what is solved
+
+      module _ (digest : List ℕ) (named : digest ≡ sha256 bytes) (x : Solution) (h : IsSolution m options x) where
+        ended : Ends (solving way file options) before.inputs.holds (finished_status x) (text_of digest m x.why (told x.iterate))
+        ended = held_of (before.inputs.holds file) bytes _ read.held (record {
+          process = m;
+          file = file_is;
+          valid = h.valid;
+          stop = tells_stop m options x.why x.iterate.residual.r h.why (ap (λ (i : Iterate). i.residual) h.iterate);
+          written = (λ i. text_of (named i) m (h.why i) (h.iterate i));
+          near_optimal = h.near_optimal;
+        })
+
+        -- a file that was solved isn't refused
+        not_refused : (s : Status) → HoldsRefused (solving way file options) before.inputs.holds s → ⊥
+        not_refused s refused =
+            let same = told_of (before.inputs.holds file) refused.0 (λ (b : List ℕ). bytes ≡ b) read.held refused.1 in
+            file_right file bytes m file_is h.valid h.few s (subst (λ (b : List ℕ). RefusesFile file b s) (sym same) refused.2)
+
+        pub cut_answers : TookFront before.taken (text_of digest m x.why (told x.iterate)) now.taken → Rose before.faults now.faults
+            → Answers (solving way file options) S.WriteFault before now
+        cut_answers front rose = record {
+          means = (text_of digest m x.why (told x.iterate), finished_status x, ended, front, rose, read.calm);
+          completes = tt;
+          tells = λ s refused. absurd (not_refused s refused);
+        }
+
+        pub whole_answers : Took before.taken (text_of digest m x.why (told x.iterate)) now.taken → now.faults ≡ before.faults
+            → Answers (solving way file options) (finished_status x) before now
+        whole_answers took same =
+            let kind = sym (finished_whole x.why x.iterate.residual.r) in
+            record {
+              means = subst (λ (k : Kind). Means k (solving way file options) (finished_status x) before now) kind
+                  (text_of digest m x.why (told x.iterate), ended, took, same, read.calm);
+              completes = subst (λ (k : Kind). Completes k (solving way file options) before.inputs.holds) kind tt;
+              tells = subst (λ (k : Kind). TellsRefusal k (solving way file options) before.inputs.holds (finished_status x)) kind
+                  (λ s refused. absurd (not_refused s refused));
+            }
+
+-- ---- for the words that were given
+
+module _ (words : List (List ℕ)) (file : List ℕ) (options : Options) (outcome : Result Status Status) (status : Status) (before now : Seen)
+    (is : status ≡ ending outcome) (asks : Asks words file options) (answers : (way : Way) → Answers (solving way file options) (ending outcome) before now) where
+  -- what is answered to the command that the words ask for
+  answered : (command : Command) → AskFor words command → Answers command status before now
+  answered command asked =
+      subst (λ (other : Command). Answers other status before now) (sym (asks.once command asked))
+      (subst (λ (s : Status). Answers (solving asks.way file options) s before now) (sym is) (answers asks.way))
+
+  pub means : OnCommand words (λ command. Means (kind_of status) command status before now)
+  means command asked = (answered command asked).means
+
+  pub completes : OnCommand words (λ command. Completes (kind_of status) command before.inputs.holds)
+  completes command asked = (answered command asked).completes
+
+  pub tells : OnCommand words (λ command. TellsRefusal (kind_of status) command before.inputs.holds status)
+  tells command asked = (answered command asked).tells
+
+  pub headline : OnCommand words
+      (λ command. kind_of status ≡ whole → (text : List ℕ) × Ends command before.inputs.holds status text × Took before.taken text now.taken)
+  headline command asked whole_is =
+      let finished = subst (λ (kind : Kind). Means kind command status before now) whole_is (means command asked) in
+      (finished.0, finished.1, finished.2)
+
+  -- a command that was run doesn't end for its words
+  pub runs : (word : ℕ) → (status ≡ S.Usage word) ↔ IsUsage words word
+  runs word = (
+    λ wrong. absurd (subst (λ (s : Status). Means (kind_of s) (solving asks.way file options) s before now) wrong (means (solving asks.way file options) asks.asked)),
+    λ wrong. absurd (asks.right word wrong),
+  )
+
+-- words that can't be run end for their word
+pub wrong : (words : List (List ℕ)) (word : ℕ) → AskWrongly words word → (other : ℕ) → (S.Usage word ≡ S.Usage other) ↔ IsUsage words other
+wrong words word asks other = (
+  λ is. let same : word ≡ other = cc in subst (λ (w : ℕ). IsUsage words w) same asks.wrong,
+  λ also. ap (λ (w : ℕ). S.Usage w) (sym (asks.once other also)),
+)

@@ -14,7 +14,7 @@ use Rattle.spd_plain.specs.Plain.{plain_of, told_of}
 use Rattle.spd_frozen.specs.declared.iterate.Iterate.{Iterate}
 use Rattle.spd_frozen.specs.Fits.{FitsModel}
 use Rattle.spd_frozen.specs.Told.{told}
-use Rattle.spd_solver.specs.Solve.{value}
+use Rattle.spd_solver.specs.Solve.{value, HasFewStates}
 use Rattle.spd_solver.specs.inner.Stages.{IsSolution}
 use Rattle.spd_solver.proofs.TableLaws.{policy_within, place_within}
 
@@ -31,13 +31,14 @@ module _ (m : Process) (options : Options) (p : Plain) (is : p ≡ plain_of m op
       subst (λ (q : Plain). q.action < length m.actions) (sym is) (place_within m w some (residual_of m w))
 
   pub is_solution : (x : Iterate) → IsValid m → told x ≡ told_of m p → told_of m p ≡ result_of m options.turns options.span
-      → IsNearOptimal m (value m options) → FitsModel m x → IsSolution m options (record { iterate = x; why = p.why })
-  is_solution x valid tells result near fits = record {
+      → IsNearOptimal m (value m options) → FitsModel m x → HasFewStates m → IsSolution m options (record { iterate = x; why = p.why })
+  is_solution x valid tells result near fits few = record {
     valid = valid;
     why = ap (λ (q : Plain). q.why) is;
     iterate = tells ∙ result;
     near_optimal = near;
     fits = fits;
+    few = few;
   }
 
 -- a state has a value for each variable

@@ -1,32 +1,37 @@
--- What the words of the command ask for.
-use Rattle.std.specs.Prelude.{ℕ, Bool, false, not, ◌||◌, ◌==◌, if◌then◌else◌, List, [], ◌∷◌, codes, bytes_eq, Result, Ok, Err, IfOk, ◌≡◌}
+-- What the words of the command ask the top call for.
+use Rattle.std.specs.Prelude.{ℕ, ◌≡◌, ◌⊎◌, List, Option, Some, None}
 use Rattle.spd_model.specs.declared.options.Options.{Options}
-use Rattle.spd_model.specs.Options.{default_options}
+use Rattle.spd_words.specs.declared.command.Command.{Command as Said}
+use Rattle.spd_words.specs.declared.command.Command.TheVariants as Said
+use Rattle.spd_words.specs.Commands.{IsCommand, IsUsage as IsNoCommand}
+use Rattle.spd_words.specs.Standing.{text_at}
 
+-- The two ways to solve a model: `solve`, and `plain`, which goes over tables. Until `solve` goes over decision diagrams it goes over
+-- tables too.
+pub data Way : Type 0 where
+  solve : Way
+  plain : Way
+
+-- what the top call runs
 pub data Command : Type 0 where
   -- solve the model in the file of this name
-  solve : List ℕ → Options → Command
+  solving : Way → List ℕ → Options → Command
 
--- a name that isn't empty, and is `-` or doesn't begin with `-`
-abbrev pub is_file_name : List ℕ → Bool
-is_file_name [] = false
-is_file_name (c ∷ cs) = bytes_eq (c ∷ cs) (codes "-") || not (c == 45)
+-- the command that words say, where it is one that the top call runs; a file's name is the word of its number
+abbrev pub command_of : List (List ℕ) → Said → Option Command
+command_of words (Said.Solve file options) = Some (solving solve (text_at words file) options)
+command_of words (Said.Plain file options) = Some (solving plain (text_at words file) options)
+command_of words _ = None
 
--- the words after `solve`: the name of a file, or the number of the first word that can't stand where it does
-abbrev pub solve_of : List (List ℕ) → Result Command ℕ
-solve_of [] = Err 1
-solve_of (name ∷ []) = if is_file_name name then Ok (solve name default_options) else Err 1
-solve_of (name ∷ more ∷ words) = if is_file_name name then Err 2 else Err 1
+-- the words ask for this command
+abbrev pub AskFor : List (List ℕ) → Command → Type 0
+AskFor words command = (said : Said) × IsCommand words said × (command_of words said ≡ Some command)
 
--- what the words ask for, or the number of the first word that can't stand where it does, counted from 0
-abbrev pub command_of : List (List ℕ) → Result Command ℕ
-command_of [] = Err 0
-command_of (word ∷ words) = if bytes_eq word (codes "solve") then solve_of words else Err 0
-
--- what is said of the command that the words are
+-- what is said of the command that the words ask for
 abbrev pub OnCommand : List (List ℕ) → (Command → Type 0) → Type 0
-OnCommand words P = IfOk (command_of words) P
+OnCommand words P = (command : Command) → AskFor words command → P command
 
--- the words are no command: the first that can't stand where it does has this number
+-- The words can't be run: they are no command, and the first that can't stand where it does has this number, counted from 0; or they
+-- are a command that the top call doesn't run, and the number is that of its first word.
 abbrev pub IsUsage : List (List ℕ) → ℕ → Type 0
-IsUsage words word = command_of words ≡ Err word
+IsUsage words word = IsNoCommand words word ⊎ ((word ≡ 0) × ((said : Said) × IsCommand words said × (command_of words said ≡ None)))

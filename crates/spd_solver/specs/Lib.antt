@@ -1,10 +1,6 @@
 pub mod Command
 pub mod Message
-pub mod SmallToken
-pub mod SmallSyntax
-pub mod Small
 pub mod Run
-pub mod Describes
 pub mod Kind
 pub mod Solve
 pub mod inner

@@ -1,7 +1,13 @@
 -- The number and the message of a status.
-use Rattle.std.specs.Prelude.{ℕ, List, [], ◌∷◌, codes, decimal}
+use Rattle.std.specs.Prelude.{ℕ, List, [], ◌∷◌, ◌++◌, codes, decimal}
 use Rattle.std.specs.List.{concat}
 use Rattle.spd_scaled.specs.Units.{units_text}
+use Rattle.spd_syntax.specs.declared.refusal.Refusal.{Refusal}
+use Rattle.spd_syntax.specs.declared.refusal.Refusal.TheVariants as Refusal
+use Rattle.spd_syntax.specs.declared.refusal.Want.{Want}
+use Rattle.spd_syntax.specs.declared.refusal.Want.TheVariants as Want
+use Rattle.spd_syntax.specs.declared.refusal.What.{What}
+use Rattle.spd_syntax.specs.declared.refusal.What.TheVariants as What
 use Rattle.spd_solver.specs.declared.status.Status.{Status}
 use Rattle.spd_solver.specs.declared.status.Status.TheVariants.{Done, Usage, OpenFault, ReadFault, TooLong, Refused, TooManyStates, Sum, Range, TurnLimit, WriteFault, Memory}
 
@@ -11,7 +17,7 @@ status_number (Usage word) = 2
 status_number (OpenFault name) = 3
 status_number (ReadFault name) = 3
 status_number (TooLong name) = 4
-status_number Refused = 5
+status_number (Refused refusal) = 5
 status_number (Sum action var state sum) = 6
 status_number (Range action state value) = 7
 status_number (TurnLimit residual) = 8
@@ -22,6 +28,64 @@ status_number Memory = 14
 -- LF
 abbrev pub newline : List ℕ
 newline = 10 ∷ []
+
+-- what is wanted in a place
+abbrev pub want_word : Want → List ℕ
+want_word Want.Variables = codes "variables"
+want_word Want.Open = codes "open"
+want_word Want.Close = codes "close"
+want_word Want.Name = codes "name"
+want_word Want.Value = codes "value"
+want_word Want.Section = codes "section"
+want_word Want.Plus = codes "plus"
+want_word Want.EndDd = codes "enddd"
+want_word Want.Number = codes "number"
+
+-- of what there are too many
+abbrev pub what_words : What → List ℕ
+what_words What.Variables = codes "variables"
+what_words What.Values = codes "values"
+what_words What.Tests = codes "tests"
+what_words What.Actions = codes "actions"
+what_words What.Dds = codes "dds"
+what_words What.NameBytes = codes "name bytes"
+what_words What.Nesting = codes "nesting"
+
+-- the words of a refusal
+abbrev pub words_of : Refusal → List ℕ
+words_of (Refusal.BadByte at) = codes "bad byte"
+words_of (Refusal.Expected at want) = codes "expected " ++ want_word want
+words_of (Refusal.Number at) = codes "not a number"
+words_of (Refusal.TooFine at) = codes "too fine"
+words_of (Refusal.TooLarge at) = codes "too large"
+words_of (Refusal.Negative at) = codes "negative"
+words_of (Refusal.TooMany at what) = codes "too many " ++ what_words what
+words_of (Refusal.LeftOut at) = codes "left out"
+words_of (Refusal.Unknown at) = codes "unknown name"
+words_of (Refusal.Twice at) = codes "twice"
+words_of (Refusal.MissingBranch at) = codes "missing branch"
+words_of (Refusal.MissingVariable at var) = codes "missing variable"
+words_of (Refusal.Primed at) = codes "primed name"
+
+-- the place of a refusal, a byte of the file, counted from 0
+abbrev pub place_of : Refusal → ℕ
+place_of (Refusal.BadByte at) = at
+place_of (Refusal.Expected at want) = at
+place_of (Refusal.Number at) = at
+place_of (Refusal.TooFine at) = at
+place_of (Refusal.TooLarge at) = at
+place_of (Refusal.Negative at) = at
+place_of (Refusal.TooMany at what) = at
+place_of (Refusal.LeftOut at) = at
+place_of (Refusal.Unknown at) = at
+place_of (Refusal.Twice at) = at
+place_of (Refusal.MissingBranch at) = at
+place_of (Refusal.MissingVariable at var) = at
+place_of (Refusal.Primed at) = at
+
+-- the message of a file that is refused
+abbrev pub refusal_message : Refusal → List ℕ
+refusal_message refusal = concat (codes "refused at byte " ∷ decimal (place_of refusal) ∷ codes ": " ∷ words_of refusal ∷ newline ∷ [])
 
 -- the message of a sum that isn't one, by the texts of its parts
 abbrev pub sum_message : List ℕ → List ℕ → List ℕ → List ℕ → List ℕ
@@ -39,7 +103,7 @@ message_of (Usage word) = concat (codes "usage: word " ∷ decimal word ∷ newl
 message_of (OpenFault name) = concat (codes "cannot open " ∷ name ∷ newline ∷ [])
 message_of (ReadFault name) = concat (codes "cannot read " ∷ name ∷ newline ∷ [])
 message_of (TooLong name) = concat (name ∷ codes " is too long" ∷ newline ∷ [])
-message_of Refused = concat (codes "refused" ∷ newline ∷ [])
+message_of (Refused refusal) = refusal_message refusal
 message_of (TooManyStates product) = concat (codes "too many states: " ∷ decimal product ∷ codes " or more" ∷ newline ∷ [])
 message_of (Sum action var state sum) = sum_message action var state (units_text 12 sum)
 message_of (Range action state value) = range_message action state (units_text 9 value)

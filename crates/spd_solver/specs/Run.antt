@@ -1,5 +1,5 @@
 -- What a command answers: of the files that the place holds, of what the output took, and of the faults of the outside.
-use Rattle.std.specs.Prelude.{ℕ, ◌<◌, ◌≡◌, List, length, Option, Some, IfSome}
+use Rattle.std.specs.Prelude.{ℕ, ◌≡◌, List, Option, Some, IfSome}
 use Rattle.spd_edge.specs.Counts.{Rose}
 use Rattle.spd_edge.specs.Direction.{Direction}
 use Rattle.spd_edge.specs.Told.{Took, TookFront}
@@ -7,10 +7,10 @@ use Rattle.spd_edge.specs.declared.outside.Stage.TheVariants as Stage
 use Rattle.spd_model.specs.Process.{Process}
 use Rattle.spd_model.specs.Chances.{IsValid}
 use Rattle.spd_solver.specs.declared.status.Status.{Status}
-use Rattle.spd_solver.specs.declared.status.Status.TheVariants.{OpenFault, ReadFault, TooLong}
-use Rattle.spd_solver.specs.Command.{Command, solve}
+use Rattle.spd_solver.specs.declared.status.Status.TheVariants.{OpenFault, ReadFault}
+use Rattle.spd_solver.specs.Command.{Command, solving}
 use Rattle.spd_solver.specs.Kind.{Kind, whole, cut, refusal, outside, memory, usage}
-use Rattle.spd_solver.specs.Solve.{file_limit, IsFileOf, IsSolved, HasFewStates, RefusesFile}
+use Rattle.spd_solver.specs.Solve.{IsFileOf, IsSolved, HasFewStates, RefusesFile}
 
 -- the bytes that a place holds under each name, where it tells them
 abbrev pub Held : Type 0
@@ -20,20 +20,24 @@ Held = List ℕ → Option (List ℕ)
 
 -- the names that a command reads
 abbrev pub Reads : Command → List ℕ → Type 0
-Reads (solve file options) name = name ≡ file
+Reads (solving way file options) name = name ≡ file
 
 -- A finished job, by its status and its text.
 abbrev pub Ends : Command → Held → Status → List ℕ → Type 0
-Ends (solve file options) held status text = IfSome (held file) (λ bytes. IsSolved bytes options status text)
+Ends (solving way file options) held status text = IfSome (held file) (λ bytes. IsSolved bytes options status text)
 
 -- Why a command's files are refused.
 abbrev pub Refuses : Command → Held → Status → Type 0
-Refuses (solve file options) held (TooLong name) = (name ≡ file) × IfSome (held file) (λ bytes. file_limit < length bytes)
-Refuses (solve file options) held status = IfSome (held file) (λ bytes. RefusesFile bytes status)
+Refuses (solving way file options) held status = IfSome (held file) (λ bytes. RefusesFile file bytes status)
 
--- A command's files are as they should be.
-abbrev pub Accepts : Command → Held → Type 0
-Accepts (solve file options) held = (bytes : List ℕ) × (m : Process) × (held file ≡ Some bytes) × IsFileOf bytes m × IsValid m × HasFewStates m
+-- The place tells files of a command that are refused.
+abbrev pub HoldsRefused : Command → Held → Status → Type 0
+HoldsRefused (solving way file options) held status = (bytes : List ℕ) × (held file ≡ Some bytes) × RefusesFile file bytes status
+
+-- The place tells files of a command that are as they should be.
+abbrev pub HoldsAccepted : Command → Held → Type 0
+HoldsAccepted (solving way file options) held =
+    (bytes : List ℕ) × (m : Process) × (held file ≡ Some bytes) × IsFileOf bytes m × IsValid m × HasFewStates m
 
 -- ---- what each kind of end means, whatever the command is
 
@@ -42,6 +46,10 @@ pub record Seen : Type 0 where
   pub inputs : Direction
   pub taken : Option (List ℕ)
   pub faults : ℕ
+
+-- what is seen of a place and an output
+abbrev pub seen : {P K : Type 0} → (P → Direction) → (K → Option (List ℕ)) → (K → ℕ) → P → K → Seen
+seen inputs taken faults place out = record { inputs = inputs place; taken = taken out; faults = faults out }
 
 -- no count of a name's faults changed
 abbrev pub ReadsCalmly : Seen → Seen → Type 0
@@ -76,6 +84,12 @@ Means usage command status before now = ⊥
 
 -- A command whose files are as they should be isn't refused: it is finished, unless the outside fails or memory runs out.
 abbrev pub Completes : Kind → Command → Held → Type 0
-Completes refusal command held = Accepts command held → ⊥
+Completes refusal command held = HoldsAccepted command held → ⊥
 Completes usage command held = ⊥
 Completes _ command held = Unit {0}
+
+-- A command whose files are refused ends with that refusal, unless the outside fails or memory runs out.
+abbrev pub TellsRefusal : Kind → Command → Held → Status → Type 0
+TellsRefusal outside command held status = Unit {0}
+TellsRefusal memory command held status = Unit {0}
+TellsRefusal _ command held status = (refused : Status) → HoldsRefused command held refused → status ≡ refused

@@ -12,17 +12,17 @@ use Rattle.spd_plain.specs.Space.{state_limit, first_large_product}
 use Rattle.spd_bellman.specs.Bound.{IsNearOptimal}
 use Rattle.spd_model.specs.declared.options.Options.{Options}
 use Rattle.spd_solver.specs.declared.status.Status.{Status}
-use Rattle.spd_solver.specs.declared.status.Status.TheVariants.{Done, Refused, TooManyStates, Sum as WrongSum, Range as WideReward, TurnLimit, Memory}
-use Rattle.spd_solver.specs.Describes.{Describes}
+use Rattle.spd_reader.specs.Reading.{IsRead, IsRefused}
+use Rattle.spd_solver.specs.declared.status.Status.TheVariants.{Done, TooLong, Refused, TooManyStates, Sum as WrongSum, Range as WideReward, TurnLimit}
 
 -- the most bytes that a model file may have
 abbrev pub file_limit : ℕ
 file_limit = 4194304
 
--- the bytes are a file of this process: no longer than a file may be, and in the grammar
+-- the bytes are a file of this process: no longer than a file may be, and read as the process
 pub record IsFileOf (bytes : List ℕ) (m : Process) : Type 0 where
   pub short : length bytes ≤ file_limit
-  pub describes : Describes bytes m
+  pub reads : IsRead bytes m
 
 -- ---- what is solved
 
@@ -73,7 +73,7 @@ pub record TellsReward (m : Process) (x : Reward) (action state : List ℕ) (val
   pub value_is : value ≡ x.value
 
 -- Why a process isn't solved, in this order: it has more states than tables are made of, its first sum of probabilities that isn't
--- one, its first reward that passes the limit. Want of memory has no cause in the process.
+-- one, its first reward that passes the limit.
 abbrev pub RefusesProcess : Process → Status → Type 0
 RefusesProcess m (TooManyStates product) = (state_limit < state_count (sizes m)) × (first_large_product m ≡ Some product)
 RefusesProcess m (WrongSum action var state sum) =
@@ -81,10 +81,10 @@ RefusesProcess m (WrongSum action var state sum) =
 RefusesProcess m (WideReward action state reward) =
     (x : Reward) × HasFewStates m × (first_wrong_sum m ≡ None) × (first_wide_reward m ≡ Some x) × TellsReward m x action state reward
     × (IsValid m → ⊥)
-RefusesProcess m Memory = Unit {0}
 RefusesProcess m _ = ⊥
 
--- why a file that isn't too long isn't solved: it describes no process, or its process is refused
-abbrev pub RefusesFile : List ℕ → Status → Type 0
-RefusesFile bytes Refused = (length bytes ≤ file_limit) × ((m : Process) → Describes bytes m → ⊥)
-RefusesFile bytes status = (m : Process) × IsFileOf bytes m × RefusesProcess m status
+-- Why the file of this name isn't solved, in this order: it is too long, it is read as no process, its process isn't solved.
+abbrev pub RefusesFile : List ℕ → List ℕ → Status → Type 0
+RefusesFile file bytes (TooLong name) = (name ≡ file) × (file_limit < length bytes)
+RefusesFile file bytes (Refused refusal) = (length bytes ≤ file_limit) × IsRefused bytes refusal
+RefusesFile file bytes status = (m : Process) × IsFileOf bytes m × RefusesProcess m status

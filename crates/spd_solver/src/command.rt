@@ -1,48 +1,31 @@
 //! What the words of the command ask for.
-ghost use Rattle.std.specs.Prelude.{◌≡◌, IfOk, MatchResult, Ok, Err};
+ghost use Rattle.std.specs.Prelude.{◌≡◌, ℕ, IfOk, IfErr};
 ghost use Rattle.spd_model.specs.Options.{AreOptions};
-ghost use Rattle.spd_solver.specs.Command.{command_of, is_file_name};
-ghost use Rattle.spd_solver.specs.inner.Stages.{said, options_of};
+ghost use Rattle.spd_solver.specs.inner.Stages.{Asks, AskWrongly};
 
 use spd_model::{Options, Word};
+use spd_words::{Command, WordsFault, read_words, text_at};
 
-/// What the words ask for.
-#[derive(Clone, Copy, Debug, PartialEq, Eq)]
-pub(crate) enum Command<'a> {
-    /// Solve the model in the file of this name.
-    Solve { file: &'a [u8], options: Options },
+/// What the top call runs: it solves the model in the file of this name.
+#[derive(Clone, Copy, Debug)]
+pub(crate) struct Job<'a> {
+    pub file: &'a [u8],
+    pub options: Options,
 }
 
-/// Whether a word can stand for a file: `-`, which is standard input, or one that doesn't begin with `-` and isn't empty.
-fn is_file_name(word: &[u8]) -> bool
-    ensures { result ≡ is_file_name word.now }
+/// What the words ask the top call for, or the number of the first word that can't stand where it does, counted from 0. A command that
+/// the top call doesn't run can't stand.
+pub(crate) fn read_job(words: &[Word]) -> Result<Job<'_>, usize>
+    ensures job { IfOk result (λ job. Asks words.now job.file.now job.options) }
+    ensures options { IfOk result (λ job. AreOptions job.options) }
+    ensures usage { IfErr result (AskWrongly words.now) }
 {
-    match word {
-        [] => false,
-        [b'-'] => true,
-        [first, ..] => *first != b'-',
-    }
-}
-
-/// What the words ask for, or the number of the first word that can't stand where it does, counted from 0.
-pub(crate) fn read_words(words: &[Word]) -> Result<Command<'_>, usize>
-    ensures said { MatchResult result (λ command. command_of words.now ≡ Ok (said command)) (λ word. command_of words.now ≡ Err word) }
-    ensures options { IfOk result (λ command. AreOptions (options_of command)) }
-{
-    match words {
-        [command, file, rest @ ..] if command.as_slice() == b"solve".as_slice() => {
-            if !is_file_name(file.as_slice()) {
-                Err(1)
-            } else if rest.is_empty() {
-                Ok(Command::Solve {
-                    file: file.as_slice(),
-                    options: Options::default(),
-                })
-            } else {
-                Err(2)
-            }
-        }
-        [command] if command.as_slice() == b"solve".as_slice() => Err(1),
-        _ => Err(0),
+    match read_words(words) {
+        Ok(Command::Solve { file, options } | Command::Plain { file, options }) => Ok(Job {
+            file: text_at(words, file),
+            options,
+        }),
+        Ok(_) => Err(0),
+        Err(WordsFault::Usage { word }) => Err(word),
     }
 }

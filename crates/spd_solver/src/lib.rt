@@ -11,17 +11,14 @@ mod command;
 mod file;
 mod message;
 mod pieces;
+mod refusals;
 mod run;
-mod small;
 mod solving;
 mod states;
 mod status;
 mod tables;
-#[cfg(test)]
-mod tests;
 
 pub use file::FILE_LIMIT;
 pub use message::{number, write_message};
 pub use run::solve_run;
-pub use small::law_one_model;
 pub use status::Status;

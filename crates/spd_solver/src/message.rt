@@ -1,13 +1,15 @@
 //! The number and the message of a status.
 ghost use Rattle.std.specs.Prelude.{◌≡◌};
 ghost use Rattle.spd_text.specs.Writing.{Wrote, Counted};
-ghost use Rattle.spd_solver.specs.Message.{status_number, sum_message, range_message, message_of};
+ghost use Rattle.spd_solver.specs.Message.{status_number, refusal_message, sum_message, range_message, message_of};
 
 use crate::pieces::write_pieces;
+use crate::refusals::{place_of, words_of};
 use crate::status::Status;
 use itoa::Buffer;
 use spd_edge::{Failed, Sink};
 use spd_scaled::put_units;
+use spd_syntax::Refusal;
 
 /// The exit status of a program that ends so.
 pub fn number(status: &Status) -> u8
@@ -18,7 +20,7 @@ pub fn number(status: &Status) -> u8
         Status::Usage { .. } => 2,
         Status::OpenFault { .. } | Status::ReadFault { .. } => 3,
         Status::TooLong { .. } => 4,
-        Status::Refused => 5,
+        Status::Refused { .. } => 5,
         Status::Sum { .. } => 6,
         Status::Range { .. } => 7,
         Status::TurnLimit { .. } => 8,
@@ -26,6 +28,21 @@ pub fn number(status: &Status) -> u8
         Status::TooManyStates { .. } => 13,
         Status::Memory => 14,
     }
+}
+
+/// Writes the message of a file that is refused.
+fn write_refusal<K: Sink>(k: &mut K, refusal: Refusal) -> Result<(), Failed>
+    ensures text { Wrote (K.taken k.old) (refusal_message refusal) result (K.taken k.new) }
+    ensures count { Counted (K.faults k.old) result (K.faults k.new) }
+    ensures named { K.name k.new ≡ K.name k.old }
+{
+    let mut digits = Buffer::new();
+    let place = digits.format(place_of(refusal));
+    let (words, name) = words_of(refusal);
+    write_pieces(
+        k,
+        &[b"refused at byte ", place.as_bytes(), b": ", words, name, b"\n"],
+    )
 }
 
 /// Writes the message of a sum that isn't one, by the texts of its parts.
@@ -101,7 +118,7 @@ pub fn write_message<K: Sink>(status: &Status, k: &mut K) -> Result<(), Failed>
         Status::OpenFault { name } => write_pieces(k, &[b"cannot open ", name.as_slice(), b"\n"]),
         Status::ReadFault { name } => write_pieces(k, &[b"cannot read ", name.as_slice(), b"\n"]),
         Status::TooLong { name } => write_pieces(k, &[name.as_slice(), b" is too long", b"\n"]),
-        Status::Refused => write_pieces(k, &[b"refused", b"\n"]),
+        Status::Refused { refusal } => write_refusal(k, *refusal),
         Status::TooManyStates { product } => {
             let mut digits = Buffer::new();
             let product = digits.format(*product);

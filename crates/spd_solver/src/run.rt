@@ -1,23 +1,23 @@
 //! The top call: from the words of a command to the text of a result.
-ghost use Rattle.std.specs.Prelude.{◌≡◌, ◌≢◌, ◌↔◌, ℕ, List, None, Some, Ok, Err, IfOk};
+ghost use Rattle.std.specs.Prelude.{◌≡◌, ◌≢◌, ◌↔◌, ℕ, List, None, Some, Ok, Err};
 ghost use Rattle.sha2.specs.Sha256.{sha256};
 ghost use Rattle.spd_edge.specs.Counts.{NoneFalls};
 ghost use Rattle.spd_edge.specs.Told.{Took};
 ghost use Rattle.spd_edge.specs.declared.outside.Stage.TheVariants as Stage;
 ghost use Rattle.spd_model.specs.Options.{AreOptions};
-ghost use Rattle.spd_solver.specs.Command.{OnCommand, IsUsage, solve};
+ghost use Rattle.spd_solver.specs.Command.{Way, OnCommand, IsUsage, solving};
 ghost use Rattle.spd_solver.specs.Kind.{kind_of, whole};
-ghost use Rattle.spd_solver.specs.Run.{Reads, Ends, Means, Completes};
-ghost use Rattle.spd_solver.specs.inner.Stages.{ending, finished_status};
+ghost use Rattle.spd_solver.specs.Run.{Reads, Ends, Means, Completes, TellsRefusal, seen};
+ghost use Rattle.spd_solver.specs.inner.Stages.{Answers, ending, finished_status};
 
-use crate::command::{Command, read_words};
+use crate::command::{Job, read_job};
 use crate::file::{FILE_LIMIT, read_file};
-use crate::small::read_small;
 use crate::solving::{Solution, solve_model};
 use crate::status::Status;
 use sha2::{Digest, Sha256};
 use spd_edge::{Place, Sink};
 use spd_model::{Options, Why, Word};
+use spd_reader::read_model;
 use spd_text::write_result;
 use std::alloc::Global;
 
@@ -40,7 +40,16 @@ fn finished(solution: &Solution) -> Status
     }
 }
 
-/// Solves the model in the file of this name, and writes the text of its result.
+/// How a command ended, whether it was finished or not.
+fn ended(outcome: Result<Status, Status>) -> Status
+    ensures { result ≡ ending outcome }
+{
+    match outcome {
+        Ok(status) | Err(status) => status,
+    }
+}
+
+/// Solves the model in the file of this name, and writes the text of its result. Both ways to solve it come to the same.
 fn solve<P: Place, K: Sink>(
     alloc: Global,
     file: &[u8],
@@ -51,10 +60,8 @@ fn solve<P: Place, K: Sink>(
     requires fresh { (name : List ℕ) → (P.inputs place.old).stage name ≡ None }
     requires options { AreOptions options.now }
 
-    ensures means { Means (kind_of (ending result)) (solve file.now options.now) (ending result)
-        (record { inputs = P.inputs place.old; taken = K.taken out.old; faults = K.faults out.old })
-        (record { inputs = P.inputs place.new; taken = K.taken out.new; faults = K.faults out.new }) }
-    ensures complete { Completes (kind_of (ending result)) (solve file.now options.now) (P.inputs place.old).holds }
+    ensures answers { (way : Way) → Answers (solving way file.now options.now) (ending result)
+        (seen P.inputs K.taken K.faults place.old out.old) (seen P.inputs K.taken K.faults place.new out.new) }
 
     // Whatever the status is.
     ensures never_falls { NoneFalls (P.inputs place.old).faults (P.inputs place.new).faults }
@@ -66,7 +73,7 @@ fn solve<P: Place, K: Sink>(
 {
     let bytes = read_file(alloc, place, file, FILE_LIMIT)?;
     let digest = digest_of(&bytes);
-    let model = read_small(alloc, &bytes)?;
+    let model = read_model(alloc, &bytes)?;
     let solution = solve_model(alloc, &model, options)?;
     write_result(out, &model, &digest, &solution.iterate, solution.why)?;
     Ok(finished(&solution))
@@ -74,17 +81,19 @@ fn solve<P: Place, K: Sink>(
 
 /// Runs the command that the words give on the files of a place, writes its text to an output, and says how it ended.
 ///
-/// The words are `solve` and the name of a file, where `-` stands for standard input. A file is opened once, read to its end and closed;
-/// nothing is written before the whole result is known. What the clauses say, of every place, output and list of words:
+/// The commands are `solve` and `plain`, each with the name of a file, where `-` stands for standard input, and with options; the words
+/// are those of `spd_words`. A file is opened once, read to its end and closed; nothing is written before the whole result is known. What
+/// the clauses say, of every place, output and list of words:
 ///
-/// - `headline`: a command that ends with a whole text (`Done`, `TurnLimit`) wrote exactly the text that the definitions give of its file,
-///   which is that of a valid process, and nothing else; and the value and policy in it are optimal up to the residual over one minus the
-///   discount, for every state, course of action and number of steps.
+/// - `headline`: a command that ends with a whole text (`Done`, `TurnLimit`) wrote exactly the text that the definitions give of its file
+///   and options, which is that of a valid process, and nothing else; and the value and policy in it are optimal up to the residual over
+///   one minus the discount, for every state, course of action and number of steps.
 /// - `means`: what each other kind of end says: a text that was cut off is a front of that text, and the output's count of faults rose; what
 ///   is refused has its cause in the file, at the first fault; a file that couldn't be opened or read has its count of faults risen, and
 ///   wasn't opened, or was; and with none of these anything was written.
 /// - `complete`: a lawful file of a valid process of at most 4,096 states is solved, unless the outside fails or memory runs out.
-/// - `usage`, `idle`: `Usage` comes exactly where the words are no command, with the first word that can't stand; then nothing is touched.
+/// - `refused`: a file that is refused ends the command with that refusal, unless the outside fails or memory runs out.
+/// - `usage`, `idle`: `Usage` comes exactly where the words can't be run, with the first word that can't stand; then nothing is touched.
 /// - `asked`, `closed`, `never_falls`, `holds`, `outputs`, `named`: the place is asked for no file but the command's, what was opened is
 ///   closed, no count falls, and all else stays.
 ///
@@ -100,9 +109,9 @@ pub fn solve_run<P: Place, K: Sink>(
     ensures headline { OnCommand words.now (λ command. kind_of result ≡ whole → (text : List ℕ)
         × Ends command (P.inputs place.old).holds result text × Took (K.taken out.old) text (K.taken out.new)) }
     ensures means { OnCommand words.now (λ command. Means (kind_of result) command result
-        (record { inputs = P.inputs place.old; taken = K.taken out.old; faults = K.faults out.old })
-        (record { inputs = P.inputs place.new; taken = K.taken out.new; faults = K.faults out.new })) }
+        (seen P.inputs K.taken K.faults place.old out.old) (seen P.inputs K.taken K.faults place.new out.new)) }
     ensures complete { OnCommand words.now (λ command. Completes (kind_of result) command (P.inputs place.old).holds) }
+    ensures refused { OnCommand words.now (λ command. TellsRefusal (kind_of result) command (P.inputs place.old).holds result) }
     ensures usage { (word : ℕ) → (result ≡ Status.Usage word) ↔ IsUsage words.now word }
     ensures idle { (word : ℕ) → IsUsage words.now word →
         (P.inputs place.new ≡ P.inputs place.old) × (K.taken out.new ≡ K.taken out.old) × (K.faults out.new ≡ K.faults out.old) }
@@ -115,13 +124,8 @@ pub fn solve_run<P: Place, K: Sink>(
     ensures outputs { P.outputs place.new ≡ P.outputs place.old }
     ensures named { K.name out.new ≡ K.name out.old }
 {
-    match read_words(words) {
-        Ok(Command::Solve { file, options }) => {
-            match solve(alloc, file, &options, place, out) {
-                Ok(status) => status,
-                Err(status) => status,
-            }
-        }
+    match read_job(words) {
+        Ok(Job { file, options }) => ended(solve(alloc, file, &options, place, out)),
         Err(word) => Status::Usage { word },
     }
 }

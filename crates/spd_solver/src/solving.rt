@@ -2,8 +2,7 @@
 ghost use Rattle.std.specs.Prelude.{◌≡◌, IfOk, IfErr};
 ghost use Rattle.spd_model.specs.Options.{AreOptions};
 ghost use Rattle.spd_plain.specs.Plain.{IsPlaced};
-ghost use Rattle.spd_solver.specs.Solve.{RefusesProcess};
-ghost use Rattle.spd_solver.specs.inner.Stages.{IsSolution, told_fault, unsolved_status};
+ghost use Rattle.spd_solver.specs.inner.Stages.{IsSolution, IsUnsolved, told_fault};
 ghost use Rattle.spd_solver.specs.declared.solving.Unsolved.TheVariants as Unsolved;
 
 use crate::states::state_text;
@@ -94,7 +93,7 @@ pub(crate) fn solve_model(
 ) -> Result<Solution, Unsolved>
     requires { AreOptions options.now }
     ensures solved { IfOk result (IsSolution model.now options.now) }
-    ensures refused { IfErr result (λ why. RefusesProcess model.now (unsolved_status why)) }
+    ensures refused { IfErr result (IsUnsolved model.now) }
 {
     // Reading a field tells the proof what every model keeps.
     let _vars = &model.vars;

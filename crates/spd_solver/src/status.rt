@@ -4,10 +4,10 @@ ghost use Rattle.spd_solver.specs.inner.Stages.{unreadable_status, unread_status
 ghost use Rattle.spd_solver.specs.declared.status.Status.TheVariants as Ends;
 
 use crate::file::Unreadable;
-use crate::small::Unread;
 use crate::solving::Unsolved;
 use spd_edge::Failed;
 use spd_model::Text;
+use spd_syntax::{Refusal, Unread};
 use std::alloc::AllocError;
 
 /// How a command ended.
@@ -31,8 +31,10 @@ pub enum Status {
     TooLong {
         name: Text,
     },
-    /// The file isn't a model file.
-    Refused,
+    /// The file isn't a model file, by its first fault.
+    Refused {
+        refusal: Refusal,
+    },
     /// The process has more states than tables may have: `product` is the first product of the leading variables' numbers of values that
     /// passes 4,096.
     TooManyStates {
@@ -79,7 +81,7 @@ impl From<Unread> for Status {
 
     fn from(why: Unread) -> Status {
         match why {
-            Unread::Refused => Status::Refused,
+            Unread::Refused(refusal) => Status::Refused { refusal },
             Unread::Memory => Status::Memory,
         }
     }

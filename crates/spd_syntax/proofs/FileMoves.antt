@@ -1,5 +1,5 @@
 -- What tokens do at the positions of variables and sections.
-use Rattle.std.proofs.Common.{◌≡◌, ℕ, zero, suc, ◌+◌, ◌-◌, ◌<◌, ◌≤◌, Bool, true, false, cond, ◌||◌, List, [], ◌∷◌, ◌++◌, length, Option, Some, None, Ok, Err, Result, refl, sym, ap, subst, ◌∙◌, arith, ltb, leb, get_or}
+use Rattle.std.proofs.Common.{◌≡◌, ℕ, suc, ◌+◌, ◌-◌, ◌<◌, ◌≤◌, Bool, true, false, cond, ◌||◌, List, [], ◌∷◌, ◌++◌, length, Option, Some, None, Ok, Err, Result, refl, sym, ap, subst, ◌∙◌, arith}
 use Rattle.std.specs.Prelude.{nat_lt, ℤ, codes, bytes_eq}
 use Rattle.std.proofs.lemmas.Bool.Decides.{nat_tests}
 use Rattle.spd_lex.specs.declared.token.Token.{Token}
@@ -8,7 +8,7 @@ use Rattle.spd_lex.specs.declared.token.Kind.TheVariants.{Open, Close, OpenSum, 
 use Rattle.spd_syntax.specs.declared.file.Word.{Word}
 use Rattle.spd_syntax.specs.declared.file.Counts.{Counts}
 use Rattle.spd_syntax.specs.declared.file.Quantity.{Quantity}
-use Rattle.spd_syntax.specs.declared.file.Quantity.TheVariants.{Diagram, Table, Reward}
+use Rattle.spd_syntax.specs.declared.file.Quantity.TheVariants.{Diagram, Table, Reward, Discount}
 use Rattle.spd_syntax.specs.declared.file.Shape.{Shape}
 use Rattle.spd_syntax.specs.declared.file.Variable.{Variable}
 use Rattle.spd_syntax.specs.declared.file.Item.{Item}
@@ -28,15 +28,14 @@ use Rattle.spd_syntax.specs.declared.refusal.Want.TheVariants as wants
 use Rattle.spd_syntax.specs.declared.refusal.What.{What}
 use Rattle.spd_syntax.specs.declared.refusal.What.TheVariants as whats
 use Rattle.spd_syntax.specs.declared.unread.Unread.{Unread}
-use Rattle.spd_syntax.specs.declared.unread.Unread.TheVariants.{Refused, Memory}
 use Rattle.spd_syntax.specs.Numbers.{number_of}
-use Rattle.spd_syntax.specs.Words.{text_of, passes, name_passes, value_passes, begins, begins_value}
-use Rattle.spd_syntax.specs.Positions.{Position, file_begins, variables_word, first_variable, variable_name, first_value, more_values, more_variables, section, no_section, dd_name, dd_end, action_name, item, part, plus_sign, plus_step, more_parts, tree, inside, number, takes, fault_step, fault_from, end_fault, counted, ◌then◌, none_yet, one_variable, one_test, one_dd, one_action, with_reward, after_setting, section_word, section_step, item_word, item_step, has_all}
-use Rattle.spd_syntax.specs.Grammar.{One, AWord, Says, IsName, IsValue, IsNumber, IsTree, IsInside}
-use Rattle.spd_syntax.specs.Files.{Each, Key, AName, AValue, HasValues, AVariable, AreVariables, after_variable, AreTrees, IsSum, APart, a_tree, a_sum, AnItem, AreItems, IsBody, ASection, AreSections, after_section, IsFile, IsWritten}
+use Rattle.spd_syntax.specs.Words.{text_of, name_passes, value_passes}
+use Rattle.spd_syntax.specs.Positions.{Position, file_begins, variables_word, first_variable, variable_name, first_value, more_values, more_variables, section, no_section, dd_name, dd_end, action_name, item, part, plus_sign, plus_step, more_parts, tree, inside, number, takes, fault_step, fault_from, counted, ◌then◌, none_yet, one_variable, one_test, one_dd, one_action, with_reward, after_setting, section_word, section_step, item_word, item_step, has_all}
+use Rattle.spd_syntax.specs.Grammar.{One, AWord, IsValue, IsNumber, IsTree}
+use Rattle.spd_syntax.specs.Files.{Each, Key, AName, AValue, HasValues, AVariable, AreVariables, after_variable, AreTrees, APart, a_tree, a_sum, AnItem, AreItems, IsBody, ASection, AreSections, after_section, IsFile, IsWritten}
 use Rattle.spd_syntax.specs.Reading.{Faults, Fails, here, Lacks, Misses, NamesAt, value_judged, body_positions, fault_after, first_fault}
-use Rattle.spd_syntax.proofs.Moves.{Moves, stay, then_moves, moves_more, fails_more, faults_more, faults_after, fails_after, goes, goes_at, goes_word, stops_word, Only, misses, then_ok, then_err}
-use Rattle.spd_syntax.proofs.TreeMoves.{tree_moves, opens, inside_moves}
+use Rattle.spd_syntax.proofs.Moves.{Moves, stay, then_moves, moves_more, fails_more, faults_after, fails_after, goes, goes_at, goes_word, stops_word, Only, misses, then_ok, then_err}
+use Rattle.spd_syntax.proofs.TreeMoves.{tree_moves, inside_moves}
 
 under : {A : Type 0} (what : What) (most n at : ℕ) (next : Result A Refusal) → n < most → counted what most n at next ≡ next
 under what most n at next h = let t : nat_lt n most ≡ true = grind (arith, nat_tests) in rw t refl
@@ -102,7 +101,7 @@ first_goes : (file : List ℕ) (c : Counts) (w : Word) (a b : List Token) → AV
 first_goes file c w a b v = goes_word file (first_value c) (more_values 1 c ∷ []) w a b v.word (then_ok (value_passes wants.Value w.from (text_of file w)) tt (more_values 1 c ∷ []) v.value.is)
 
 -- whether a word is the name of a value doesn't depend on what is wanted
-value_wanted : (v w : Want) (at : ℕ) (text : List ℕ) → value_passes v at text ≡ Ok tt → value_passes w at text ≡ Ok tt
+pub value_wanted : (v w : Want) (at : ℕ) (text : List ℕ) → value_passes v at text ≡ Ok tt → value_passes w at text ≡ Ok tt
 unfolding value_passes
 value_wanted v w at text e = grind (arith, e)
 
@@ -112,9 +111,11 @@ judged_says n tests at text e = by_name (value_passes wants.Close at text) refl 
     by_tests : (b : Bool) → nat_lt tests 256 ≡ b → Ok (tt {0}) ≡ cond b (Ok (tt {0})) (Err (TooMany at whats.Tests)) → tests < 256
     by_tests true t e = grind (arith, nat_tests)
     by_tests false t e = absurd (cc)
+
     by_values : (b : Bool) → nat_lt n 64 ≡ b → Ok (tt {0}) ≡ cond b (counted whats.Tests 256 tests at (Ok (tt {0}))) (Err (TooMany at whats.Values)) → (n < 64) × (tests < 256)
     by_values true t e = (grind (arith, nat_tests), by_tests (nat_lt tests 256) refl e)
     by_values false t e = absurd (cc)
+
     by_name : (r : Result (Unit {0}) Refusal) → value_passes wants.Close at text ≡ r → Ok (tt {0}) ≡ (r then counted whats.Values 64 n at (counted whats.Tests 256 tests at (Ok (tt {0})))) → (r ≡ Ok (tt {0})) × (n < 64) × (tests < 256)
     by_name (Ok x) t e = let more = by_values (nat_lt n 64) refl e in (refl, more.0, more.1)
     by_name (Err f) t e = absurd (cc)
@@ -131,10 +132,12 @@ judged_stops n at c text f e = by_name (value_passes wants.Close at text) e
     by_tests : (b : Bool) → Err f ≡ cond b (Ok (tt {0})) (Err (TooMany at whats.Tests)) → cond b (Ok (more_values (n + 1) (one_test c) ∷ [])) (Err (TooMany at whats.Tests)) ≡ Err f
     by_tests true e = absurd (cc)
     by_tests false e = let same : f ≡ TooMany at whats.Tests = cc in ap (λ (r : Refusal). Err r) (sym same)
+
     by_values : (b : Bool) → Err f ≡ cond b (counted whats.Tests 256 c.tests at (Ok (tt {0}))) (Err (TooMany at whats.Values))
         → cond b (counted whats.Tests 256 c.tests at (Ok (more_values (n + 1) (one_test c) ∷ []))) (Err (TooMany at whats.Values)) ≡ Err f
     by_values true e = by_tests (nat_lt c.tests 256) e
     by_values false e = let same : f ≡ TooMany at whats.Values = cc in ap (λ (r : Refusal). Err r) (sym same)
+
     by_name : (r : Result (Unit {0}) Refusal) → Err f ≡ (r then counted whats.Values 64 n at (counted whats.Tests 256 c.tests at (Ok (tt {0}))))
         → (r then counted whats.Values 64 n at (counted whats.Tests 256 c.tests at (Ok (more_values (n + 1) (one_test c) ∷ [])))) ≡ Err f
     by_name (Ok x) e = by_values (nat_lt n 64) e
@@ -188,8 +191,9 @@ has_values_move file c vs a e is =
 pub values_stopped : (file : List ℕ) (n : ℕ) (c : Counts) (ts : List Token) (f : Refusal) → Lacks WordKind ts → Lacks Close ts → f ≡ Expected (here file ts) wants.Close → Faults file (more_values n c ∷ []) ts f
 unfolding fault_from
 values_stopped file n c [] f lw lc is = record { is = λ behind. ap (λ (r : Refusal). Some r) (sym is) }
-values_stopped file n c (t ∷ ts) f lw lc is = record { is = λ behind.
-    ap (fault_step (λ rs. fault_from file (rs ++ behind) ts)) (other t.kind lw lc t.from (text_of file (record { from = t.from; to = t.to }))) ∙ ap (λ (r : Refusal). Some r) (sym is);
+values_stopped file n c (t ∷ ts) f lw lc is = record {
+  is = λ behind.
+      ap (fault_step (λ rs. fault_from file (rs ++ behind) ts)) (other t.kind lw lc t.from (text_of file (record { from = t.from; to = t.to }))) ∙ ap (λ (r : Refusal). Some r) (sym is);
 }
   where
     other : (k : Kind) → (k ≡ WordKind → ⊥) → (k ≡ Close → ⊥) → (at : ℕ) (text : List ℕ) → takes (more_values n c) k at text ≡ Err (Expected at wants.Close)
@@ -240,8 +244,9 @@ variables_more file c k (x ∷ vs) v a e b m are one is = (are.0, are.1, are.2, 
 pub variables_stopped : (file : List ℕ) (c : Counts) (ts : List Token) (f : Refusal) → Lacks Open ts → Lacks Close ts → f ≡ Expected (here file ts) wants.Close → Faults file (more_variables c ∷ []) ts f
 unfolding fault_from
 variables_stopped file c [] f lo lc is = record { is = λ behind. ap (λ (r : Refusal). Some r) (sym is) }
-variables_stopped file c (t ∷ ts) f lo lc is = record { is = λ behind.
-    ap (fault_step (λ rs. fault_from file (rs ++ behind) ts)) (other t.kind lo lc t.from (text_of file (record { from = t.from; to = t.to }))) ∙ ap (λ (r : Refusal). Some r) (sym is);
+variables_stopped file c (t ∷ ts) f lo lc is = record {
+  is = λ behind.
+      ap (fault_step (λ rs. fault_from file (rs ++ behind) ts)) (other t.kind lo lc t.from (text_of file (record { from = t.from; to = t.to }))) ∙ ap (λ (r : Refusal). Some r) (sym is);
 }
   where
     other : (k : Kind) → (k ≡ Open → ⊥) → (k ≡ Close → ⊥) → (at : ℕ) (text : List ℕ) → takes (more_variables c) k at text ≡ Err (Expected at wants.Close)
@@ -255,6 +260,21 @@ first_variable_only = record { others = other; at_end = λ end ps. refl }
     other : (k : Kind) (at : ℕ) (text : List ℕ) → (k ≡ Open → ⊥) → takes first_variable k at text ≡ Err (Expected at wants.Open)
     other Open at text differs = absurd (differs refl)
     other k at text differs = refl
+
+pub variables_empty : (file : List ℕ) (k : Counts) (vs : List Variable) (a e : List Token) (f : Refusal) → length vs ≡ 0 → AreVariables file none_yet vs k a e → Lacks Open e → f ≡ Expected (here file e) wants.Open
+    → Faults file (first_variable ∷ []) a f
+variables_empty file k (v ∷ vs) a e f none are lacks is = absurd (omega arith)
+variables_empty file k [] a e f none are lacks is =
+    faults_after file _ (first_variable ∷ []) a e f (stay file (first_variable ∷ []) a e are.1) (misses file first_variable Open wants.Open e f first_variable_only (record { lacks = lacks; fault = is }))
+
+pub variables_end : (file : List ℕ) (k : Counts) (vs : List Variable) (a e : List Token) (f : Refusal) → AreVariables file none_yet vs k a e → 0 < length vs → Lacks Open e → Misses file Close wants.Close e f
+    → Faults file (first_variable ∷ []) a f
+variables_end file k vs a e f are some lacks m = faults_after file _ (more_variables k ∷ []) a e f (first_move file k vs a e are some) (variables_stopped file k e f lacks m.lacks m.fault)
+
+-- variables add no decision diagrams and no actions
+pub variables_keep : (file : List ℕ) (c k : Counts) (vs : List Variable) (a e : List Token) → AreVariables file c vs k a e → (k.dds ≡ c.dds) × (k.actions ≡ c.actions)
+variables_keep file c k [] a e are = (ap (λ (d : Counts). d.dds) (sym are.0), ap (λ (d : Counts). d.actions) (sym are.0))
+variables_keep file c k (v ∷ vs) a e are = variables_keep file (after_variable c v) k vs are.1 e are.4
 
 -- ---- words of the grammar
 
@@ -394,8 +414,9 @@ no_other_word file c a b f one lacks e =
 pub section_stopped : (file : List ℕ) (c : Counts) (ts : List Token) (f : Refusal) → 0 < length ts → Lacks WordKind ts → Lacks Open ts → f ≡ Expected (here file ts) wants.Section → Faults file (section c ∷ []) ts f
 unfolding fault_from
 section_stopped file c [] f some lw lo is = absurd (omega arith)
-section_stopped file c (t ∷ ts) f some lw lo is = record { is = λ behind.
-    ap (fault_step (λ rs. fault_from file (rs ++ behind) ts)) (other t.kind lw lo t.from (text_of file (record { from = t.from; to = t.to }))) ∙ ap (λ (r : Refusal). Some r) (sym is);
+section_stopped file c (t ∷ ts) f some lw lo is = record {
+  is = λ behind.
+      ap (fault_step (λ rs. fault_from file (rs ++ behind) ts)) (other t.kind lw lo t.from (text_of file (record { from = t.from; to = t.to }))) ∙ ap (λ (r : Refusal). Some r) (sym is);
 }
   where
     other : (k : Kind) → (k ≡ WordKind → ⊥) → (k ≡ Open → ⊥) → (at : ℕ) (text : List ℕ) → takes (section c) k at text ≡ Err (Expected at wants.Section)
@@ -443,8 +464,9 @@ trees_inside file ts a b d u each some one fails =
 parts_stopped : (file : List ℕ) (ts : List Token) (f : Refusal) → Lacks Open ts → Lacks CloseSum ts → f ≡ Expected (here file ts) wants.Close → Faults file (more_parts ∷ []) ts f
 unfolding fault_from
 parts_stopped file [] f lo lc is = record { is = λ behind. ap (λ (r : Refusal). Some r) (sym is) }
-parts_stopped file (t ∷ ts) f lo lc is = record { is = λ behind.
-    ap (fault_step (λ rs. fault_from file (rs ++ behind) ts)) (other t.kind lo lc t.from (text_of file (record { from = t.from; to = t.to }))) ∙ ap (λ (r : Refusal). Some r) (sym is);
+parts_stopped file (t ∷ ts) f lo lc is = record {
+  is = λ behind.
+      ap (fault_step (λ rs. fault_from file (rs ++ behind) ts)) (other t.kind lo lc t.from (text_of file (record { from = t.from; to = t.to }))) ∙ ap (λ (r : Refusal). Some r) (sym is);
 }
   where
     other : (k : Kind) → (k ≡ Open → ⊥) → (k ≡ CloseSum → ⊥) → (at : ℕ) (text : List ℕ) → takes more_parts k at text ≡ Err (Expected at wants.Close)
@@ -619,6 +641,29 @@ pub sections_more : (file : List ℕ) (c k : Counts) (ss : List Section) (s : Se
 sections_more file c k [] s a e m are is =
     (m, subst (λ (l : List Token). ASection file c s l m) (sym are.1) (subst (λ (d : Counts). ASection file d s e m) (sym are.0) is), (ap (λ (d : Counts). after_section d s) are.0, refl))
 sections_more file c k (x ∷ ss) s a e m are is = (are.0, are.1, sections_more file (after_section c x) k ss s are.0 e m are.2 is)
+
+setting_keeps : (q : Quantity) (c : Counts) → ((after_setting q c).dds ≡ c.dds) × ((after_setting q c).actions ≡ c.actions)
+setting_keeps Discount c = (refl, refl)
+setting_keeps q c = (refl, refl)
+
+-- at most 4,096 decision diagrams and 64 actions were read
+pub section_keeps : (file : List ℕ) (c : Counts) (s : Section) (a e : List Token) → ASection file c s a e → c.dds ≤ 4096 → c.actions ≤ 64 → ((after_section c s).dds ≤ 4096) × ((after_section c s).actions ≤ 64)
+section_keeps file c s a e is dds actions = by_body s is.body
+  where
+    by_body : (s : Section) → IsBody file c (section_word (text_of file is.word)) is.word s is.b e → ((after_section c s).dds ≤ 4096) × ((after_section c s).actions ≤ 64)
+    by_body (sections.Dd name shape) body = (omega (arith, body.5), actions)
+    by_body (sections.Action name its end) body = (dds, omega (arith, body.3))
+    by_body (sections.Reward word parts) body = (dds, actions)
+    by_body (sections.Setting word q units) body = let keeps = setting_keeps q c in (omega (arith, keeps.0), omega (arith, keeps.1))
+
+-- the word of a section that is no other
+pub reward_else : (k : SectionWord) → (k ≡ Dd → ⊥) → (k ≡ Action → ⊥) → ((q : Quantity) → k ≡ Setting q → ⊥) → (k ≡ LeftOutSection → ⊥) → (k ≡ NoSection → ⊥) → k ≡ RewardWord
+reward_else Dd a b d l o = absurd (a refl)
+reward_else Action a b d l o = absurd (b refl)
+reward_else RewardWord a b d l o = refl
+reward_else (Setting q) a b d l o = absurd (d q refl)
+reward_else LeftOutSection a b d l o = absurd (l refl)
+reward_else NoSection a b d l o = absurd (o refl)
 
 -- the file ends before each section that must stand was read
 pub sections_lack : (file : List ℕ) (c k : Counts) (ss : List Section) (a e : List Token) (f : Refusal) → AreSections file c ss k a e → e ≡ [] → has_all k ≡ false → f ≡ Expected (here file e) wants.Section → Faults file (section c ∷ []) a f

@@ -1,3 +1,8 @@
+mod Rows
 mod Moves
 mod TreeMoves
-mod FileMoves
+pub mod FileMoves
+pub mod Accepted
+pub mod Unique
+mod FrontLaws
+pub mod CallerLemmas

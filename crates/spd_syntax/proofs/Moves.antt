@@ -1,6 +1,6 @@
 -- How tokens move the first fault: from what is next before them to what is next behind them.
-use Rattle.std.proofs.Common.{◌≡◌, ℕ, ◌+◌, ◌<◌, Bool, true, false, cond, List, [], ◌∷◌, ◌++◌, length, Option, Some, None, Ok, Err, Result, refl, sym, ap, subst, ◌∙◌, arith, append_assoc}
-use Rattle.std.specs.Prelude.{IfOk, IfErr, IsErrAnd}
+use Rattle.std.proofs.Common.{◌≡◌, ℕ, ◌+◌, List, [], ◌∷◌, ◌++◌, length, Some, Ok, Err, Result, sym, ap, subst, ◌∙◌, arith, append_assoc}
+use Rattle.std.specs.Prelude.{IfErr, IsErrAnd}
 use Rattle.spd_lex.specs.declared.token.Token.{Token}
 use Rattle.spd_lex.specs.declared.token.Kind.{Kind}
 use Rattle.spd_lex.specs.declared.token.Kind.TheVariants.{Word as WordKind}
@@ -48,39 +48,44 @@ fails_after file ps qs a b Memory moves fails = tt
 
 pub goes : (file : List ℕ) (p : Position) (qs : List Position) (kind : Kind) (a b : List Token) → One kind a b → ((at : ℕ) (text : List ℕ) → takes p kind at text ≡ Ok qs) → Moves file (p ∷ []) a qs b
 unfolding fault_from
-goes file p qs kind a b one h = record { is = λ behind.
-    let w : Word = record { from = one.token.from; to = one.token.to } in
-    ap (λ (l : List Token). fault_from file (p ∷ behind) l) one.first
-    ∙ ap (fault_step (λ rs. fault_from file (rs ++ behind) b)) (ap (λ (k : Kind). takes p k one.token.from (text_of file w)) one.kind ∙ h one.token.from (text_of file w));
+goes file p qs kind a b one h = record {
+  is = λ behind.
+      let w : Word = record { from = one.token.from; to = one.token.to } in
+      ap (λ (l : List Token). fault_from file (p ∷ behind) l) one.first
+      ∙ ap (fault_step (λ rs. fault_from file (rs ++ behind) b)) (ap (λ (k : Kind). takes p k one.token.from (text_of file w)) one.kind ∙ h one.token.from (text_of file w));
 }
 
 -- what is next behind a token may depend on its place
 pub goes_at : (file : List ℕ) (p : Position) (qs : ℕ → List Position) (kind : Kind) (a b : List Token) (one : One kind a b) → ((at : ℕ) (text : List ℕ) → takes p kind at text ≡ Ok (qs at)) → Moves file (p ∷ []) a (qs one.token.from) b
 unfolding fault_from
-goes_at file p qs kind a b one h = record { is = λ behind.
-    let w : Word = record { from = one.token.from; to = one.token.to } in
-    ap (λ (l : List Token). fault_from file (p ∷ behind) l) one.first
-    ∙ ap (fault_step (λ rs. fault_from file (rs ++ behind) b)) (ap (λ (k : Kind). takes p k one.token.from (text_of file w)) one.kind ∙ h one.token.from (text_of file w));
+goes_at file p qs kind a b one h = record {
+  is = λ behind.
+      let w : Word = record { from = one.token.from; to = one.token.to } in
+      ap (λ (l : List Token). fault_from file (p ∷ behind) l) one.first
+      ∙ ap (fault_step (λ rs. fault_from file (rs ++ behind) b)) (ap (λ (k : Kind). takes p k one.token.from (text_of file w)) one.kind ∙ h one.token.from (text_of file w));
 }
 
 pub goes_word : (file : List ℕ) (p : Position) (qs : List Position) (w : Word) (a b : List Token) → AWord w a b → takes p WordKind w.from (text_of file w) ≡ Ok qs → Moves file (p ∷ []) a qs b
 unfolding fault_from
-goes_word file p qs w a b word h = record { is = λ behind.
-    ap (λ (l : List Token). fault_from file (p ∷ behind) l) word.first ∙ ap (fault_step (λ rs. fault_from file (rs ++ behind) b)) h;
+goes_word file p qs w a b word h = record {
+  is = λ behind.
+      ap (λ (l : List Token). fault_from file (p ∷ behind) l) word.first ∙ ap (fault_step (λ rs. fault_from file (rs ++ behind) b)) h;
 }
 
 pub stops_word : (file : List ℕ) (p : Position) (w : Word) (a b : List Token) (f : Refusal) → AWord w a b → takes p WordKind w.from (text_of file w) ≡ Err f → Faults file (p ∷ []) a f
 unfolding fault_from
-stops_word file p w a b f word h = record { is = λ behind.
-    ap (λ (l : List Token). fault_from file (p ∷ behind) l) word.first ∙ ap (fault_step (λ rs. fault_from file (rs ++ behind) b)) h;
+stops_word file p w a b f word h = record {
+  is = λ behind.
+      ap (λ (l : List Token). fault_from file (p ∷ behind) l) word.first ∙ ap (fault_step (λ rs. fault_from file (rs ++ behind) b)) h;
 }
 
 pub stops_one : (file : List ℕ) (p : Position) (kind : Kind) (a b : List Token) (f : ℕ → Refusal) (one : One kind a b) → ((at : ℕ) (text : List ℕ) → takes p kind at text ≡ Err (f at)) → Faults file (p ∷ []) a (f one.token.from)
 unfolding fault_from
-stops_one file p kind a b f one h = record { is = λ behind.
-    let w : Word = record { from = one.token.from; to = one.token.to } in
-    ap (λ (l : List Token). fault_from file (p ∷ behind) l) one.first
-    ∙ ap (fault_step (λ rs. fault_from file (rs ++ behind) b)) (ap (λ (k : Kind). takes p k one.token.from (text_of file w)) one.kind ∙ h one.token.from (text_of file w));
+stops_one file p kind a b f one h = record {
+  is = λ behind.
+      let w : Word = record { from = one.token.from; to = one.token.to } in
+      ap (λ (l : List Token). fault_from file (p ∷ behind) l) one.first
+      ∙ ap (fault_step (λ rs. fault_from file (rs ++ behind) b)) (ap (λ (k : Kind). takes p k one.token.from (text_of file w)) one.kind ∙ h one.token.from (text_of file w));
 }
 
 -- the only kind of token with which a position goes on
@@ -122,14 +127,6 @@ refused_exit file ps ts (Err e) f is faults = subst (Fails file ps ts) (sym is) 
 pub same_exit : {X : Type 0} (file : List ℕ) (ps : List Position) (ts : List Token) (r : Result X Unread) (u : Unread) → IsErrAnd r (λ (e : Unread). e ≡ u) → Fails file ps ts u → IfErr r (Fails file ps ts)
 same_exit file ps ts (Ok x) u is fails = tt
 same_exit file ps ts (Err e) u is fails = subst (Fails file ps ts) (sym is) fails
-
-pub ok_map : {A E : Type 0} {P Q : A → Type 0} (r : Result A E) → ((x : A) → P x → Q x) → IfOk r P → IfOk r Q
-ok_map (Ok x) f h = f x h
-ok_map (Err e) f h = tt
-
-pub err_map : {A E : Type 0} {P Q : E → Type 0} (r : Result A E) → ((e : E) → P e → Q e) → IfErr r P → IfErr r Q
-err_map (Ok x) f h = tt
-err_map (Err e) f h = f e h
 
 pub err_exit : {X E : Type 0} (P : E → Type 0) (r : Result X E) (e : E) → IsErrAnd r (λ (x : E). x ≡ e) → P e → IfErr r P
 err_exit P (Ok x) e is p = tt

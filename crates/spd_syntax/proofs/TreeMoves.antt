@@ -1,9 +1,9 @@
 -- What tokens do at the positions of a tree.
-use Rattle.std.proofs.Common.{◌≡◌, ℕ, ◌+◌, ◌<◌, ◌≤◌, Bool, true, false, cond, List, [], ◌∷◌, ◌++◌, length, Option, Some, None, Ok, Err, Result, refl, sym, ap, subst, ◌∙◌, arith}
+use Rattle.std.proofs.Common.{◌≡◌, ℕ, ◌+◌, ◌<◌, ◌≤◌, Bool, true, false, cond, List, [], ◌∷◌, ◌++◌, length, Some, Ok, Err, refl, sym, ap, subst, ◌∙◌, arith}
 use Rattle.std.specs.Prelude.{nat_lt, ℤ}
 use Rattle.spd_lex.specs.declared.token.Token.{Token}
 use Rattle.spd_lex.specs.declared.token.Kind.{Kind}
-use Rattle.spd_lex.specs.declared.token.Kind.TheVariants.{Open, Close, OpenSum, CloseSum, Word as WordKind}
+use Rattle.spd_lex.specs.declared.token.Kind.TheVariants.{Open, Close, Word as WordKind}
 use Rattle.spd_syntax.specs.declared.file.Word.{Word}
 use Rattle.spd_syntax.specs.declared.file.Quantity.{Quantity}
 use Rattle.spd_syntax.specs.declared.file.Branch.{Branch}
@@ -11,15 +11,13 @@ use Rattle.spd_syntax.specs.declared.file.Shape.{Shape, Number, Use, Choice, Cho
 use Rattle.spd_syntax.specs.declared.file.Shape.TheBlock.{hidden-the_row-Branch-0}
 use Rattle.spd_syntax.specs.declared.refusal.Refusal.{Refusal}
 use Rattle.spd_syntax.specs.declared.refusal.Refusal.TheVariants.{Expected, TooMany}
-use Rattle.spd_syntax.specs.declared.refusal.Want.{Want}
 use Rattle.spd_syntax.specs.declared.refusal.Want.TheVariants as wants
 use Rattle.spd_syntax.specs.declared.refusal.What.TheVariants as whats
 use Rattle.spd_syntax.specs.declared.unread.Unread.{Unread}
-use Rattle.spd_syntax.specs.declared.unread.Unread.TheVariants.{Refused, Memory}
 use Rattle.spd_syntax.specs.Numbers.{number_of}
 use Rattle.spd_syntax.specs.Words.{text_of, name_passes, value_passes, is_number_word, is_primed, front_of, unmarked}
-use Rattle.spd_syntax.specs.Positions.{Position, tree, inside, after_number, after_primed, branch_value, branch_end, more_branches, takes, fault_step, fault_from, end_fault, ◌then◌, inside_step}
-use Rattle.spd_syntax.specs.Grammar.{One, AWord, IsValue, IsNumber, IsHead, IsTree, IsInside, IsSome, AreBranches, IsBranch, HaveBranches}
+use Rattle.spd_syntax.specs.Positions.{tree, inside, after_number, after_primed, branch_value, branch_end, more_branches, takes, fault_step, fault_from, ◌then◌, inside_step}
+use Rattle.spd_syntax.specs.Grammar.{One, AWord, IsValue, IsHead, IsTree, IsInside, IsSome, AreBranches, IsBranch, HaveBranches}
 use Rattle.spd_syntax.specs.Reading.{Faults, Fails, here, Lacks, Misses, behind_head}
 use Rattle.spd_syntax.proofs.Moves.{Moves, stay, then_moves, moves_more, fails_more, faults_more, faults_after, fails_after, goes, goes_word, stops_word, stops_one, Only, misses, then_ok, then_err}
 
@@ -117,7 +115,7 @@ head_opens file q n false a b one = more_opens file q n a b one
 
 -- ---- a whole tree lets the file go on
 
-first_opens : (file : List ℕ) (q : Quantity) (n : ℕ) {k : _} (row : Row_of-Branch k) (a e : List Token) → IsSome row → AreBranches file q n row a e → (b : List Token) × One Open a b
+pub first_opens : (file : List ℕ) (q : Quantity) (n : ℕ) {k : _} (row : Row_of-Branch k) (a e : List Token) → IsSome row → AreBranches file q n row a e → (b : List Token) × One Open a b
 first_opens file q n end_of-Branch a e some bs = absurd some
 first_opens file q n (more_of-Branch w kid row) a e some bs = (bs.0, bs.5)
 
@@ -175,9 +173,16 @@ some_from_length (more_of-Branch w kid row) h = tt
 pub is_choice : (file : List ℕ) (q : Quantity) (n : ℕ) (primed : Bool) (head w : Word) (bs : List Branch) (a b c e : List Token) → AWord head a b → HaveBranches file q n bs b c → One Close c e → 0 < length bs
     → IsHead file primed head w → IsInside file q n (Choice w primed bs) a e
 is_choice file q n primed head w bs a b c e word have close some is =
-    let row = hidden-the_row-Branch-0 bs in
-    (b, c, head, word, are_from_have file q n row b c (subst (λ xs. HaveBranches file q n xs b c) (sym (items_hidden-the_row-Branch-0 bs)) have), close,
-    some_from_length row (subst (λ xs. 0 < length xs) (sym (items_hidden-the_row-Branch-0 bs)) some), is)
+    let row = hidden-the_row-Branch-0 bs in (
+      b,
+      c,
+      head,
+      word,
+      are_from_have file q n row b c (subst (λ xs. HaveBranches file q n xs b c) (sym (items_hidden-the_row-Branch-0 bs)) have),
+      close,
+      some_from_length row (subst (λ xs. 0 < length xs) (sym (items_hidden-the_row-Branch-0 bs)) some),
+      is,
+    )
 
 have_moves : (file : List ℕ) (q : Quantity) (n : ℕ) (bs : List Branch) (a e : List Token) → HaveBranches file q n bs a e → Moves file (more_branches q n ∷ []) a (more_branches q n ∷ []) e
 have_moves file q n [] a e h = stay file (more_branches q n ∷ []) a e h
@@ -202,8 +207,9 @@ head_next file q n primed (x ∷ bs) a e b h one = then_moves file _ (more_branc
 more_stopped : (file : List ℕ) (q : Quantity) (n : ℕ) (ts : List Token) (f : Refusal) → Lacks Open ts → Lacks Close ts → f ≡ Expected (here file ts) wants.Close → Faults file (more_branches q n ∷ []) ts f
 unfolding fault_from
 more_stopped file q n [] f lo lc is = record { is = λ behind. ap (λ (r : Refusal). Some r) (sym is) }
-more_stopped file q n (t ∷ ts) f lo lc is = record { is = λ behind.
-    ap (fault_step (λ rs. fault_from file (rs ++ behind) ts)) (other t.kind lo lc t.from (text_of file (record { from = t.from; to = t.to }))) ∙ ap (λ (r : Refusal). Some r) (sym is);
+more_stopped file q n (t ∷ ts) f lo lc is = record {
+  is = λ behind.
+      ap (fault_step (λ rs. fault_from file (rs ++ behind) ts)) (other t.kind lo lc t.from (text_of file (record { from = t.from; to = t.to }))) ∙ ap (λ (r : Refusal). Some r) (sym is);
 }
   where
     other : (k : Kind) → (k ≡ Open → ⊥) → (k ≡ Close → ⊥) → (at : ℕ) (text : List ℕ) → takes (more_branches q n) k at text ≡ Err (Expected at wants.Close)

@@ -1,10 +1,9 @@
 -- The grammar by cases, for whole files.
-use Rattle.std.specs.Prelude.{ℕ, ◌+◌, ◌-◌, ◌<◌, ◌≤◌, ◌≡◌, true, ◌⊎◌, List, [], ◌∷◌, length, codes, None, ℤ}
+use Rattle.std.specs.Prelude.{ℕ, ◌+◌, ◌-◌, ◌<◌, ◌≤◌, ◌≡◌, true, List, [], ◌∷◌, length, codes, None}
 use Rattle.spd_lex.specs.declared.token.Token.{Token}
 use Rattle.spd_lex.specs.declared.token.Kind.TheVariants.{Open, Close, OpenSum, CloseSum}
 use Rattle.spd_lex.specs.Tokens.{tokens_of, bad_byte}
 use Rattle.spd_syntax.specs.declared.file.Word.{Word}
-use Rattle.spd_syntax.specs.declared.file.Quantity.{Quantity}
 use Rattle.spd_syntax.specs.declared.file.Quantity.TheVariants.{Diagram, Table, Reward}
 use Rattle.spd_syntax.specs.declared.file.Shape.{Shape}
 use Rattle.spd_syntax.specs.declared.file.Variable.{Variable}

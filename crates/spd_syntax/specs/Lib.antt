@@ -4,3 +4,4 @@ pub mod Positions
 pub mod Grammar
 pub mod Files
 pub mod Reading
+pub mod Fronts

@@ -1,5 +1,5 @@
 -- Numbers: what a word in a number's place comes to.
-use Rattle.std.specs.Prelude.{ℕ, ◌^◌, ◌*◌, Bool, true, false, ◌&&◌, ◌||◌, not, if◌then◌else◌, List, Option, Some, None, Result, Ok, Err, ℤ, pos, neg_ℤ, ◌*ℤ◌, int_lt}
+use Rattle.std.specs.Prelude.{ℕ, ◌^◌, Bool, true, false, ◌&&◌, ◌||◌, not, if◌then◌else◌, List, Option, Some, None, Result, Ok, Err, ℤ, pos, neg_ℤ, ◌*ℤ◌, int_lt}
 use Rattle.spd_scaled.specs.declared.decimal.Decimal.{Decimal}
 use Rattle.spd_scaled.specs.declared.decimal.Scale.{Scale}
 use Rattle.spd_scaled.specs.declared.decimal.Scale.TheVariants as scales

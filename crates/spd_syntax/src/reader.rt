@@ -41,7 +41,12 @@ impl Reader<'_> {
     }
 
     /// The tokens behind a bracket of this kind.
-    pub(crate) fn bracket<'t>(&self, kind: Kind, want: Want, tokens: &'t [Token]) -> Result<&'t [Token], Refusal>
+    pub(crate) fn bracket<'t>(
+        &self,
+        kind: Kind,
+        want: Want,
+        tokens: &'t [Token],
+    ) -> Result<&'t [Token], Refusal>
         ensures ok { IfOk result (λ rest. One kind tokens.now rest.now) }
         ensures err { IfErr result (Misses self.now.file.now kind want tokens.now) }
     {
@@ -52,7 +57,11 @@ impl Reader<'_> {
     }
 
     /// The word that stands first, and the tokens behind it.
-    pub(crate) fn word<'t>(&self, want: Want, tokens: &'t [Token]) -> Result<(Word, &'t [Token]), Refusal>
+    pub(crate) fn word<'t>(
+        &self,
+        want: Want,
+        tokens: &'t [Token],
+    ) -> Result<(Word, &'t [Token]), Refusal>
         ensures ok { IfOk result (λ x. AWord x.0 tokens.now x.1.now) }
         ensures err { IfErr result (Misses self.now.file.now Kind.Word want tokens.now) }
     {

@@ -268,7 +268,11 @@ impl Reader<'_> {
     }
 
     /// An action behind `action`.
-    fn action<'t>(&self, counts: Counts, tokens: &'t [Token]) -> Result<(Section, &'t [Token]), Unread>
+    fn action<'t>(
+        &self,
+        counts: Counts,
+        tokens: &'t [Token],
+    ) -> Result<(Section, &'t [Token]), Unread>
         ensures ok { IfOk result (λ x. (w : WordValue) → IsBody self.now.file.now counts SectionWord.Action w x.0 tokens.now x.1.now) }
         ensures err { IfErr result (Fails self.now.file.now (body_positions counts SectionWord.Action) tokens.now) }
         ensures shorter { IfOk result (λ x. length x.1.now < length tokens.now) }
@@ -279,7 +283,12 @@ impl Reader<'_> {
     }
 
     /// A setting behind its word.
-    fn setting<'t>(&self, word: Word, quantity: Quantity, tokens: &'t [Token]) -> Result<(Section, &'t [Token]), Refusal>
+    fn setting<'t>(
+        &self,
+        word: Word,
+        quantity: Quantity,
+        tokens: &'t [Token],
+    ) -> Result<(Section, &'t [Token]), Refusal>
         ensures ok { IfOk result (λ x. (c : CountsValue) → IsBody self.now.file.now c (SectionWord.Setting quantity) word x.0 tokens.now x.1.now) }
         ensures err { IfErr result (Faults self.now.file.now (number quantity ∷ []) tokens.now) }
         ensures shorter { IfOk result (λ x. length x.1.now < length tokens.now) }
@@ -330,7 +339,13 @@ impl Reader<'_> {
     }
 
     /// A section behind its first word.
-    fn body<'t>(&self, counts: Counts, word: Word, kind: SectionWord, tokens: &'t [Token]) -> Result<(Section, &'t [Token]), Unread>
+    fn body<'t>(
+        &self,
+        counts: Counts,
+        word: Word,
+        kind: SectionWord,
+        tokens: &'t [Token],
+    ) -> Result<(Section, &'t [Token]), Unread>
         requires left_out { kind ≡ SectionWord.LeftOut → ⊥ }
         requires other { kind ≡ SectionWord.Other → ⊥ }
         ensures ok { IfOk result (λ x. IsBody self.now.file.now counts kind word x.0 tokens.now x.1.now) }
@@ -349,7 +364,11 @@ impl Reader<'_> {
     }
 
     /// A section.
-    fn section<'t>(&self, counts: Counts, tokens: &'t [Token]) -> Result<(Section, &'t [Token]), Unread>
+    fn section<'t>(
+        &self,
+        counts: Counts,
+        tokens: &'t [Token],
+    ) -> Result<(Section, &'t [Token]), Unread>
         requires { 0 < length tokens.now }
         ensures ok { IfOk result (λ x. ASection self.now.file.now counts x.0 tokens.now x.1.now) }
         ensures err { IfErr result (Fails self.now.file.now (section counts ∷ []) tokens.now) }
@@ -368,7 +387,11 @@ impl Reader<'_> {
     }
 
     /// The sections of a file, up to its end.
-    pub(crate) fn sections(&self, counts: Counts, tokens: &[Token]) -> Result<Items<Section>, Unread>
+    pub(crate) fn sections(
+        &self,
+        counts: Counts,
+        tokens: &[Token],
+    ) -> Result<Items<Section>, Unread>
         requires dds { counts.dds ≤ 4096 }
         requires actions { counts.actions ≤ 64 }
         ensures ok { IfOk result (λ x. (k : CountsValue) × AreSections self.now.file.now counts x k tokens.now [] × (has_all k ≡ true)) }

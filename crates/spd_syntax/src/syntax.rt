@@ -1,11 +1,10 @@
 //! A whole file.
 
-ghost use Rattle.std.specs.Prelude.{◌≡◌, List, ◌∷◌, [], IfOk, IfErr, codes, ℕ, None};
-ghost use Rattle.spd_syntax.specs.declared.file.File.{File as FileValue};
+ghost use Rattle.std.specs.Prelude.{◌≡◌, ◌∷◌, [], IfOk, IfErr, codes};
 ghost use Rattle.spd_syntax.specs.declared.file.Word.{Word as WordValue};
 ghost use Rattle.spd_syntax.specs.Positions.{file_begins, variables_word};
 ghost use Rattle.spd_syntax.specs.Files.{Key, IsFile, IsWritten};
-ghost use Rattle.spd_syntax.specs.Reading.{Faults, Fails, first_fault, TellsFault};
+ghost use Rattle.spd_syntax.specs.Reading.{Faults, Fails, TellsFault};
 
 use crate::file::File;
 use crate::reader::Reader;
@@ -63,8 +62,3 @@ pub fn read_syntax(alloc: Global, bytes: &[u8]) -> Result<File, Unread>
     let reader = Reader { alloc, file: bytes };
     reader.whole(tokens.as_slice())
 }
-
-/// A file that is written as the grammar says has no fault, so it is never refused.
-pub fn law_written()
-    ensures { (file : List ℕ) (f : FileValue) → IsWritten file f → first_fault file ≡ None }
-{}

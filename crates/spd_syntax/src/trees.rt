@@ -27,7 +27,12 @@ fn behind_name(primed: bool) -> Want
 impl Reader<'_> {
     /// A tree with n trees round it, and the tokens behind it.
     #[cycle(nest)]
-    pub(crate) fn tree<'t>(&self, quantity: Quantity, n: u32, tokens: &'t [Token]) -> Result<(Shape, &'t [Token]), Unread>
+    pub(crate) fn tree<'t>(
+        &self,
+        quantity: Quantity,
+        n: u32,
+        tokens: &'t [Token],
+    ) -> Result<(Shape, &'t [Token]), Unread>
         ensures ok { IfOk result (λ x. IsTree self.now.file.now quantity n x.0 tokens.now x.1.now) }
         ensures err { IfErr result (Fails self.now.file.now (tree quantity n ∷ []) tokens.now) }
         ensures shorter { IfOk result (λ x. length x.1.now < length tokens.now) }
@@ -44,7 +49,12 @@ impl Reader<'_> {
 
     /// What stands behind the `(` of a tree.
     #[cycle(nest)]
-    pub(crate) fn inside<'t>(&self, quantity: Quantity, n: u32, tokens: &'t [Token]) -> Result<(Shape, &'t [Token]), Unread>
+    pub(crate) fn inside<'t>(
+        &self,
+        quantity: Quantity,
+        n: u32,
+        tokens: &'t [Token],
+    ) -> Result<(Shape, &'t [Token]), Unread>
         requires { n < 300 }
         ensures ok { IfOk result (λ x. IsInside self.now.file.now quantity n x.0 tokens.now x.1.now) }
         ensures err { IfErr result (Fails self.now.file.now (inside quantity n ∷ []) tokens.now) }
@@ -108,7 +118,12 @@ impl Reader<'_> {
 
     /// A branch behind its `(`, and the tokens behind it.
     #[cycle(nest)]
-    fn branch<'t>(&self, quantity: Quantity, n: u32, tokens: &'t [Token]) -> Result<(Branch, &'t [Token]), Unread>
+    fn branch<'t>(
+        &self,
+        quantity: Quantity,
+        n: u32,
+        tokens: &'t [Token],
+    ) -> Result<(Branch, &'t [Token]), Unread>
         requires { n < 300 }
         ensures ok { IfOk result (λ x. IsBranch self.now.file.now quantity n x.0 tokens.now x.1.now) }
         ensures err { IfErr result (Fails self.now.file.now (branch_value quantity n ∷ []) tokens.now) }

@@ -76,7 +76,13 @@ pub(crate) fn next_word(tokens: &[Token]) -> Option<(Word, &[Token])>
 
 impl Reader<'_> {
     /// A name that is declared, of which there are `count` where at most `most` may be.
-    pub(crate) fn declared<'t>(&self, what: What, most: u32, count: u32, tokens: &'t [Token]) -> Result<(Word, &'t [Token]), Refusal>
+    pub(crate) fn declared<'t>(
+        &self,
+        what: What,
+        most: u32,
+        count: u32,
+        tokens: &'t [Token],
+    ) -> Result<(Word, &'t [Token]), Refusal>
         ensures ok { IfOk result (λ x. AName self.now.file.now x.0 tokens.now x.1.now) }
         ensures room { IfOk result (λ x. count < most) }
         ensures err { IfErr result (λ f. (p : Position) (qs : List Position) → NamesAt p what most count qs → Faults self.now.file.now (p ∷ []) tokens.now f) }
@@ -124,7 +130,11 @@ impl Reader<'_> {
     }
 
     /// The values of a variable, and the end of it.
-    fn values<'t>(&self, counts: Counts, tokens: &'t [Token]) -> Result<(Items<Word>, &'t [Token]), Unread>
+    fn values<'t>(
+        &self,
+        counts: Counts,
+        tokens: &'t [Token],
+    ) -> Result<(Items<Word>, &'t [Token]), Unread>
         requires { counts.tests ≤ 256 }
         ensures ok { IfOk result (λ x. HasValues self.now.file.now counts x.0 tokens.now x.1.now) }
         ensures err { IfErr result (Fails self.now.file.now (first_value counts ∷ []) tokens.now) }
@@ -144,7 +154,11 @@ impl Reader<'_> {
     }
 
     /// A variable behind its `(`.
-    fn variable<'t>(&self, counts: Counts, tokens: &'t [Token]) -> Result<(Variable, &'t [Token]), Unread>
+    fn variable<'t>(
+        &self,
+        counts: Counts,
+        tokens: &'t [Token],
+    ) -> Result<(Variable, &'t [Token]), Unread>
         requires { counts.tests ≤ 256 }
         ensures ok { IfOk result (λ x. AVariable self.now.file.now counts x.0 tokens.now x.1.now) }
         ensures err { IfErr result (Fails self.now.file.now (variable_name counts ∷ []) tokens.now) }
@@ -156,7 +170,10 @@ impl Reader<'_> {
     }
 
     /// The variables of a file, and the `)` behind them.
-    pub(crate) fn variables<'t>(&self, tokens: &'t [Token]) -> Result<(Items<Variable>, Counts, &'t [Token]), Unread>
+    pub(crate) fn variables<'t>(
+        &self,
+        tokens: &'t [Token],
+    ) -> Result<(Items<Variable>, Counts, &'t [Token]), Unread>
         ensures ok { IfOk result (λ x. (b : List TokenValue) × AreVariables self.now.file.now none_yet x.0 x.1 tokens.now b × One Kind.Close b x.2.now × (0 < length x.0)) }
         ensures err { IfErr result (Fails self.now.file.now (first_variable ∷ []) tokens.now) }
     {

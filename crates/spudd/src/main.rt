@@ -14,8 +14,17 @@ const HELP: &str = "\
 spudd: near-optimal values and policies of factored Markov decision processes
 
     spudd solve FILE     solves the model in FILE and prints the result; `-` is standard input
+    spudd plain FILE     the same, always over tables; of the options it takes --turns and --span
     spudd --help         prints this
     spudd --version      prints the version
+
+Options, as --turns 20 or --turns=20. Behind the word -- no word is an option.
+    --turns N      the last turn that a run may reach: 0 to 1000000, else 10000
+    --span X       the width of a range of values that become one: a decimal from 0 to 10^21, else 0
+    --workers N    how many threads compute a turn: 1 to 64, else 1
+    --nodes N      how many nodes a diagram's store may hold: 16 to 8388608, else 262144
+    --memo N       how many answers a memo table keeps: 1 to 8388608, else 65536
+Models of up to 4096 states are solved, over tables, where the last three have no effect.
 
 Exit status: 0 done, 2 wrong words, 3 a file can't be opened or read, 4 a file is too long,
 5 a file is refused, 6 probabilities don't sum to one, 7 a reward is too large,

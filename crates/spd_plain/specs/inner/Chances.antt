@@ -6,8 +6,6 @@ use Rattle.spd_model.specs.Trees.{value_of}
 use Rattle.spd_model.specs.Numbers.{numbers_below}
 use Rattle.spd_model.specs.States.{sizes, states, state_count, IsState}
 use Rattle.spd_model.specs.Chances.{sizes_after, probability}
-use Rattle.spd_plain.specs.declared.chances.Chances.{Chances}
-use Rattle.spd_plain.specs.declared.chances.Chances.TheVariants.{Kept, Read}
 
 -- The probability, after action a at s, of the first of the values `next`, which are those of the variable i and of those after it:
 -- `probability m a s i v rest` where `next` is `v ∷ rest`.
@@ -24,8 +22,7 @@ pub record TellsChances (m : Process) (a : Action) (s : List ℕ) (i : ℕ) (cha
   pub each : (k : ℕ) → k < slice_index (sizes m) i * state_count (sizes_after m i)
       → slice_index_or chances k (pos 0) ≡ chance_of m a s i (slice_index_or (states (drop i (sizes m))) k [])
 
--- kept probabilities hold for all next values of the variables after i
-abbrev pub IsKept : Process → Action → List ℕ → ℕ → Chances → Type 0
-IsKept m a s i (Kept kept) = (length kept ≡ slice_index (sizes m) i)
-    × ((v : ℕ) (rest : List ℕ) → v < slice_index (sizes m) i → IsState (sizes_after m i) rest → slice_index_or kept v (pos 0) ≡ probability m a s i v rest)
-IsKept m a s i Read = Unit {0}
+-- one probability for each value, whatever the next values of the variables after i are
+pub record HoldFor (m : Process) (a : Action) (s : List ℕ) (i : ℕ) (kept : List ℤ) : Type 0 where
+  pub count : length kept ≡ slice_index (sizes m) i
+  pub each : (v : ℕ) (rest : List ℕ) → v < slice_index (sizes m) i → IsState (sizes_after m i) rest → slice_index_or kept v (pos 0) ≡ probability m a s i v rest

@@ -16,23 +16,30 @@ use Rattle.spd_frozen.specs.Fits.{FitsModel}
 use Rattle.spd_frozen.specs.Told.{told}
 use Rattle.spd_solver.specs.declared.solving.Solution.{Solution}
 use Rattle.spd_model.specs.declared.options.Options.{Options}
-use Rattle.spd_solver.specs.declared.command.Command.{Command as Said}
-use Rattle.spd_solver.specs.declared.command.Command.TheVariants.{Solve}
 use Rattle.spd_solver.specs.declared.file.Unreadable.{Unreadable}
-use Rattle.spd_solver.specs.declared.small.unread.Unread.{Unread}
+use Rattle.spd_syntax.specs.declared.unread.Unread.{Unread}
+use Rattle.spd_syntax.specs.declared.unread.Unread.TheVariants as Unread
 use Rattle.spd_solver.specs.declared.solving.Unsolved.{Unsolved}
 use Rattle.spd_solver.specs.declared.status.Status.{Status}
-use Rattle.spd_solver.specs.Command.{Command, solve}
-use Rattle.spd_solver.specs.Solve.{state_text, value}
+use Rattle.spd_solver.specs.Command.{Way, Command, solving, AskFor, IsUsage}
+use Rattle.spd_solver.specs.Run.{Seen, Means, Completes, TellsRefusal}
+use Rattle.spd_solver.specs.Kind.{kind_of}
+use Rattle.spd_solver.specs.Solve.{state_text, value, HasFewStates, RefusesProcess}
 
 -- ---- words
 
--- the command that the code reads from the words, and its options
-abbrev pub said : Said → Command
-said (Solve file options) = solve file.now options
+-- the words ask for solving the model in a file of this name with these options, and for nothing else
+pub record Asks (words : List (List ℕ)) (file : List ℕ) (options : Options) : Type 0 where
+  pub way : Way
+  pub asked : AskFor words (solving way file options)
+  pub once : (other : Command) → AskFor words other → other ≡ solving way file options
+  pub right : (word : ℕ) → IsUsage words word → ⊥
 
-abbrev pub options_of : Said → Options
-options_of (Solve file options) = options
+-- the words can't be run, from the word of this number on
+pub record AskWrongly (words : List (List ℕ)) (word : ℕ) : Type 0 where
+  pub wrong : IsUsage words word
+  pub once : (other : ℕ) → IsUsage words other → other ≡ word
+  pub nothing : (command : Command) → AskFor words command → ⊥
 
 -- ---- files
 
@@ -55,7 +62,7 @@ unreadable_status Unreadable.Memory = Status.Memory
 -- ---- models
 
 abbrev pub unread_status : Unread → Status
-unread_status Unread.Refused = Status.Refused
+unread_status (Unread.Refused refusal) = Status.Refused refusal
 unread_status Unread.Memory = Status.Memory
 
 -- What the run of a process comes to: it is told of the turn at which the run stops, and the value there is near optimal.
@@ -65,6 +72,7 @@ pub record IsSolution (m : Process) (options : Options) (x : Solution) : Type 0 
   pub iterate : told x.iterate ≡ result_of m options.turns options.span
   pub near_optimal : IsNearOptimal m (value m options)
   pub fits : FitsModel m x.iterate
+  pub few : HasFewStates m
 
 -- a fault of a process, with the names of what is at fault
 abbrev pub told_fault : Process → PlainFault → Unsolved
@@ -78,6 +86,11 @@ unsolved_status (Unsolved.TooManyStates product) = Status.TooManyStates product
 unsolved_status (Unsolved.Sum action var state sum) = Status.Sum action var state sum
 unsolved_status (Unsolved.Range action state value) = Status.Range action state value
 unsolved_status Unsolved.Memory = Status.Memory
+
+-- why a process isn't solved; want of memory has no cause in the process
+abbrev pub IsUnsolved : Process → Unsolved → Type 0
+IsUnsolved m Unsolved.Memory = Unit {0}
+IsUnsolved m why = RefusesProcess m (unsolved_status why)
 
 -- `variable=value`, and what parts the word of this number from the one before it
 abbrev pub state_word : Var → ℕ → List ℕ
@@ -97,3 +110,9 @@ finished_status x = elim x.why [ Why.Done ↦ Status.Done | Why.Limit ↦ Status
 abbrev pub ending : Result Status Status → Status
 ending (Ok status) = status
 ending (Err status) = status
+
+-- What a command answers by its status, of what was seen before and after.
+pub record Answers (command : Command) (status : Status) (before now : Seen) : Type 0 where
+  pub means : Means (kind_of status) command status before now
+  pub completes : Completes (kind_of status) command before.inputs.holds
+  pub tells : TellsRefusal (kind_of status) command before.inputs.holds status

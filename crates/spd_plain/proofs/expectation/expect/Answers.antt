@@ -13,7 +13,7 @@ use Rattle.spd_plain.specs.Space.{state_limit}
 use Rattle.spd_plain.specs.inner.Axes.{axis_of, axes_of, IsAxis}
 use Rattle.spd_plain.specs.inner.Chances.{TellsChances}
 use Rattle.spd_plain.specs.inner.Expectations.{weighted}
-use Rattle.spd_plain.proofs.Known.{length-below, var_is, is_axis, known_at}
+use Rattle.spd_plain.proofs.Known.{length-below, var_is, is_axis, reach_read}
 use Rattle.spd_plain.proofs.Steps.{Expects, IsReady, is_ready, expects_start, expects_more, expects_one, expects_all}
 use Rattle.spd_plain.proofs.expectation.expect.Goals as goal
 
@@ -38,13 +38,12 @@ tell_chances-requires-clause-axis c =
     let law = subst IsLawful c.model.view_is c.model.invariant in
     is_axis m law c.requires.few c.as_slice-axes.result.now (c.as_slice-axes.ensures ∙ c.requires.space.axes) c.loop-var.var c.loop-var-test.true nothing
 
-pub tell_chances-requires-clause-known : goal.tell_chances-requires-clause-known
-tell_chances-requires-clause-known c =
+pub tell_chances-requires-clause-reach : goal.tell_chances-requires-clause-reach
+tell_chances-requires-clause-reach c =
     let m = c.args.model.now in
     let law = subst IsLawful c.model.view_is c.model.invariant in
-    known_at m law c.requires.few c.as_slice-axes.result.now (c.as_slice-axes.ensures ∙ c.requires.space.axes) c.loop-var.var c.loop-var-test.true nothing
-    c.args.action.now c.requires.action c.args.s.now c.requires.state c.as_slice-known.result.now c.index-known-var.result
-    (c.as_slice-known.ensures ∙ ap (λ (x : Outlook). x.chances) c.requires.outlook) c.index-known-var.is
+    reach_read m law c.requires.few c.as_slice-axes.result.now (c.as_slice-axes.ensures ∙ c.requires.space.axes) c.loop-var.var c.loop-var-test.true nothing
+    c.args.action.now c.as_slice-reaches.result.now (c.as_slice-reaches.ensures ∙ ap (λ (x : Outlook). x.reaches) c.requires.outlook)
 
 -- the axis of this turn, and the table before it
 module _ (m : Process) (law : IsLawful m) (few : state_count (sizes m) ≤ state_limit) (axes : List Axis) (are : axes ≡ axes_of m) (k : ℕ) (test : k < length axes)

@@ -1,15 +1,16 @@
-use Rattle.std.proofs.Common.{◌≡◌, ◌∙◌, sym, ap, subst, arith, true, false, length, ◌++◌, ◌∷◌, [], Ok, Err, cond, refl, get_or, List, ℕ}
+use Rattle.std.proofs.Common.{◌≡◌, ◌∙◌, sym, ap, subst, arith, true, false, ◌∷◌, [], Ok, Err, refl, get_or, List, ℕ}
+use Rattle.std.proofs.lemmas.Result.{IfOk-weaker, IfErr-weaker}
 use Rattle.spd_lex.specs.declared.token.Token.{Token}
-use Rattle.spd_lex.specs.declared.token.Kind.TheVariants.{Open, Close, Word as WordKind}
+use Rattle.spd_lex.specs.declared.token.Kind.TheVariants.{Open, Word as WordKind}
 use Rattle.spd_syntax.specs.declared.refusal.Refusal.TheVariants.{Expected, TooMany}
 use Rattle.spd_syntax.specs.declared.refusal.What.TheVariants.{Nesting}
 use Rattle.spd_syntax.specs.declared.refusal.Want.TheVariants as wants
-use Rattle.spd_syntax.specs.Grammar.{HaveBranches, IsInside, IsHead, IsValue}
+use Rattle.spd_syntax.specs.Grammar.{HaveBranches, IsInside, IsValue}
 use Rattle.spd_syntax.specs.Words.{value_passes, name_passes, is_number_word, is_primed, text_of, unmarked, front_of}
 use Rattle.spd_syntax.specs.Numbers.{number_of}
 use Rattle.spd_syntax.specs.Positions.{tree, inside, branch_value}
 use Rattle.spd_syntax.specs.Reading.{here, behind_head, Faults}
-use Rattle.spd_syntax.proofs.Moves.{misses, fails_after, refused_exit, same_exit, ok_map, err_map, one_longer}
+use Rattle.spd_syntax.proofs.Moves.{misses, fails_after, refused_exit, same_exit, one_longer}
 use Rattle.spd_syntax.proofs.TreeMoves.{tree_only, inside_only, value_only, opens, too_deep, have_more, is_choice, choice_branch, choice_ends, choice_empty, primed_some, number_stops, number_ends, head_stops, head_fails, value_stops, branch_tree, branch_ends}
 use Rattle.spd_syntax.proofs.reader.Reader.+nest.Goals as goal
 
@@ -127,7 +128,7 @@ inside-returns-then-is_primed-clause-ok t c =
     let apart : is_number_word (text_of file w) ≡ false = ap is_number_word (sym c.text-text.ensures) ∙ sym c.is_number_word.ensures ∙ c.if-is_number_word.false in
     let mark : is_primed (text_of file w) ≡ true = ap is_primed (sym c.text-text.ensures) ∙ sym c.is_primed.ensures ∙ c.if-is_primed.true in
     let ok : name_passes wants.Name w.from (front_of (text_of file w)) ≡ Ok tt = sym (c.in_ok-name_passes.ensures ∙ ap (name_passes wants.Name w.from) (c.front_of.ensures ∙ ap front_of c.text-text.ensures)) in
-    ok_map c.choice.result (λ x h. subst (λ shape. IsInside file c.args.quantity c.args.n shape c.args.tokens.now x.1.now) (sym h.2)
+    IfOk-weaker c.choice.result _ _ (λ x h. subst (λ shape. IsInside file c.args.quantity c.args.n shape c.args.tokens.now x.1.now) (sym h.2)
     (is_choice file c.args.quantity c.args.n true w (unmarked true w) h.0 c.args.tokens.now c.in_ok-word.rest.now h.1 x.1.now c.in_ok-word.ensures.ok h.3 h.4 h.5
     (record { word = refl; no_number = apart; mark = mark; passes = ok }))) c.choice.ensures.ok
 
@@ -138,7 +139,7 @@ inside-returns-then-is_primed-clause-err t c =
     let apart : is_number_word (text_of file w) ≡ false = ap is_number_word (sym c.text-text.ensures) ∙ sym c.is_number_word.ensures ∙ c.if-is_number_word.false in
     let mark : is_primed (text_of file w) ≡ true = ap is_primed (sym c.text-text.ensures) ∙ sym c.is_primed.ensures ∙ c.if-is_primed.true in
     let ok : name_passes wants.Name w.from (front_of (text_of file w)) ≡ Ok tt = sym (c.in_ok-name_passes.ensures ∙ ap (name_passes wants.Name w.from) (c.front_of.ensures ∙ ap front_of c.text-text.ensures)) in
-    err_map c.choice.result (λ e fails. head_fails file c.args.quantity c.args.n true w c.args.tokens.now c.in_ok-word.rest.now e c.in_ok-word.ensures.ok
+    IfErr-weaker c.choice.result _ _ (λ e fails. head_fails file c.args.quantity c.args.n true w c.args.tokens.now c.in_ok-word.rest.now e c.in_ok-word.ensures.ok
     (record { word = refl; no_number = apart; mark = mark; passes = ok }) fails) c.choice.ensures.err
 
 pub inside-returns-in_err-name_passes-2-clause-err : goal.inside-returns-in_err-name_passes-2-clause-err
@@ -159,7 +160,7 @@ inside-returns-clause-ok t c =
     let apart : is_number_word (text_of file w) ≡ false = ap is_number_word (sym c.text-text.ensures) ∙ sym c.is_number_word.ensures ∙ c.if-is_number_word.false in
     let plain : is_primed (text_of file w) ≡ false = ap is_primed (sym c.text-text.ensures) ∙ sym c.is_primed.ensures ∙ c.if-is_primed.false in
     let ok : name_passes wants.Name w.from (text_of file w) ≡ Ok tt = sym (c.in_ok-name_passes-2.ensures ∙ ap (name_passes wants.Name w.from) c.text-text.ensures) in
-    ok_map c.choice-2.result (λ x h. subst (λ shape. IsInside file c.args.quantity c.args.n shape c.args.tokens.now x.1.now) (sym h.2)
+    IfOk-weaker c.choice-2.result _ _ (λ x h. subst (λ shape. IsInside file c.args.quantity c.args.n shape c.args.tokens.now x.1.now) (sym h.2)
     (is_choice file c.args.quantity c.args.n false w (unmarked false w) h.0 c.args.tokens.now c.in_ok-word.rest.now h.1 x.1.now c.in_ok-word.ensures.ok h.3 h.4 h.5
     (record { word = refl; no_number = apart; mark = plain; passes = ok }))) c.choice-2.ensures.ok
 
@@ -170,7 +171,7 @@ inside-returns-clause-err t c =
     let apart : is_number_word (text_of file w) ≡ false = ap is_number_word (sym c.text-text.ensures) ∙ sym c.is_number_word.ensures ∙ c.if-is_number_word.false in
     let plain : is_primed (text_of file w) ≡ false = ap is_primed (sym c.text-text.ensures) ∙ sym c.is_primed.ensures ∙ c.if-is_primed.false in
     let ok : name_passes wants.Name w.from (text_of file w) ≡ Ok tt = sym (c.in_ok-name_passes-2.ensures ∙ ap (name_passes wants.Name w.from) c.text-text.ensures) in
-    err_map c.choice-2.result (λ e fails. head_fails file c.args.quantity c.args.n false w c.args.tokens.now c.in_ok-word.rest.now e c.in_ok-word.ensures.ok
+    IfErr-weaker c.choice-2.result _ _ (λ e fails. head_fails file c.args.quantity c.args.n false w c.args.tokens.now c.in_ok-word.rest.now e c.in_ok-word.ensures.ok
     (record { word = refl; no_number = apart; mark = plain; passes = ok }) fails) c.choice-2.ensures.err
 
 -- ---- tree
@@ -186,12 +187,12 @@ tree-returns-then-n-ge300-clause-err t c =
     let file = c.args.self.now.file.now in
     let one = c.in_ok-rest.ensures.ok in
     let place : (get_or c.args.tokens.now 0 (record { kind = Open; from = 0; to = 0 })).from ≡ one.token.from =
-        ap (λ (ts : List Token). (get_or {A = Token} ts 0 (record { kind = Open; from = 0; to = 0 })).from) one.first in
+    ap (λ (ts : List Token). (get_or {A = Token} ts 0 (record { kind = Open; from = 0; to = 0 })).from) one.first in
     subst (λ (at : ℕ). Faults file (tree c.args.quantity c.args.n ∷ []) c.args.tokens.now (TooMany at Nesting)) (sym place)
     (too_deep file c.args.quantity c.args.n c.args.tokens.now c.in_ok-rest.rest.now (omega arith) one)
 
 pub tree-returns-clause-err : goal.tree-returns-clause-err
 tree-returns-clause-err t c =
     let file = c.args.self.now.file.now in
-    err_map c.inside.result (λ e fails. fails_after file (tree c.args.quantity c.args.n ∷ []) (inside c.args.quantity c.args.n ∷ []) c.args.tokens.now c.in_ok-rest.rest.now e
+    IfErr-weaker c.inside.result _ _ (λ e fails. fails_after file (tree c.args.quantity c.args.n ∷ []) (inside c.args.quantity c.args.n ∷ []) c.args.tokens.now c.in_ok-rest.rest.now e
     (opens file c.args.quantity c.args.n c.args.tokens.now c.in_ok-rest.rest.now (omega arith) c.in_ok-rest.ensures.ok) fails) c.inside.ensures.err

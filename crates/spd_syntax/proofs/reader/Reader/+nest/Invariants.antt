@@ -1,4 +1,4 @@
-use Rattle.std.proofs.Common.{◌≡◌, ◌+◌, ◌-◌, ◌*◌, ◌≤◌, length}
+use Rattle.std.proofs.Common.{◌+◌, ◌-◌, ◌*◌, ◌≤◌, length}
 use Rattle.spd_syntax.specs.Grammar.{HaveBranches}
 use Rattle.spd_syntax.proofs.reader.Reader.+nest.Given as goal
 

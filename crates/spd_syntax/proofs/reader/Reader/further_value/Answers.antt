@@ -1,4 +1,4 @@
-use Rattle.std.proofs.Common.{◌≡◌, ◌∙◌, ap, sym, arith, Ok, Err}
+use Rattle.std.proofs.Common.{◌∙◌, ap, arith}
 use Rattle.spd_syntax.specs.declared.refusal.Want.TheVariants as wants
 use Rattle.spd_syntax.specs.Words.{value_passes, text_of}
 use Rattle.spd_syntax.proofs.Moves.{err_is}

@@ -29,7 +29,7 @@ returns-then-is_left_out_operator-clause-err c =
     let w = c.in_ok-word.word in
     let other : bytes_eq (text_of file w) (codes "+") ≡ false = ap (λ t. bytes_eq t (codes "+")) (sym c.text-text.ensures) ∙ sym c.says.ensures ∙ c.if-says.false in
     let left : (bytes_eq (text_of file w) (codes "*") || (bytes_eq (text_of file w) (codes "-") || bytes_eq (text_of file w) (codes "max"))) ≡ true =
-        ap (λ t. bytes_eq t (codes "*") || (bytes_eq t (codes "-") || bytes_eq t (codes "max"))) (sym c.text-text.ensures) ∙ sym c.is_left_out_operator.ensures ∙ c.if-is_left_out_operator.true in
+    ap (λ t. bytes_eq t (codes "*") || (bytes_eq t (codes "-") || bytes_eq t (codes "max"))) (sym c.text-text.ensures) ∙ sym c.is_left_out_operator.ensures ∙ c.if-is_left_out_operator.true in
     plus_left_out file w c.args.tokens.now c.in_ok-word.rest.now c.in_ok-word.ensures.ok other left
 
 pub returns-clause-err : goal.returns-clause-err
@@ -38,5 +38,5 @@ returns-clause-err c =
     let w = c.in_ok-word.word in
     let other : bytes_eq (text_of file w) (codes "+") ≡ false = ap (λ t. bytes_eq t (codes "+")) (sym c.text-text.ensures) ∙ sym c.says.ensures ∙ c.if-says.false in
     let left : (bytes_eq (text_of file w) (codes "*") || (bytes_eq (text_of file w) (codes "-") || bytes_eq (text_of file w) (codes "max"))) ≡ false =
-        ap (λ t. bytes_eq t (codes "*") || (bytes_eq t (codes "-") || bytes_eq t (codes "max"))) (sym c.text-text.ensures) ∙ sym c.is_left_out_operator.ensures ∙ c.if-is_left_out_operator.false in
+    ap (λ t. bytes_eq t (codes "*") || (bytes_eq t (codes "-") || bytes_eq t (codes "max"))) (sym c.text-text.ensures) ∙ sym c.is_left_out_operator.ensures ∙ c.if-is_left_out_operator.false in
     plus_expected file w c.args.tokens.now c.in_ok-word.rest.now c.in_ok-word.ensures.ok other left

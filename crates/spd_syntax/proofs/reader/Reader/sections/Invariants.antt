@@ -5,7 +5,7 @@ use Rattle.spd_syntax.proofs.reader.Reader.sections.Given as goal
 abbrev pub invariant-loop-rest : goal.invariant-loop-rest
 invariant-loop-rest l =
     record {
-      read : AreSections l.self.file.now l.counts l.sections l.seen l.tokens l.rest;
+      read : AreSections l.self.file.now l.fn.counts l.sections l.seen l.tokens l.rest;
       dds : l.seen.dds ≤ 4096;
       actions : l.seen.actions ≤ 64;
     }

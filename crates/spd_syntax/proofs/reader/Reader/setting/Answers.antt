@@ -26,9 +26,13 @@ returns-in_err-units-clause-err c =
 pub returns-clause-ok : goal.returns-clause-ok
 returns-clause-ok c k =
     let w = c.in_ok-number.number in
-    let fits : FitsSigned w128 c.in_ok-units.units = search rules in
-    (w, refl, refl, c.in_ok-number.ensures.ok,
-    record { is = sym (c.in_ok-units.ensures ∙ ap (number_of c.args.quantity w.from) c.text.ensures) ∙ ap (λ (n : ℤ). Ok n) (sym (to_z-of_z w128 c.in_ok-units.units fits)) })
+    let fits : FitsSigned w128 c.in_ok-units.units = search rules in (
+      w,
+      refl,
+      refl,
+      c.in_ok-number.ensures.ok,
+      record { is = sym (c.in_ok-units.ensures ∙ ap (number_of c.args.quantity w.from) c.text.ensures) ∙ ap (λ (n : ℤ). Ok n) (sym (to_z-of_z w128 c.in_ok-units.units fits)) },
+    )
 
 pub returns-clause-shorter : goal.returns-clause-shorter
 returns-clause-shorter c = omega (arith, word_longer c.in_ok-number.number c.args.tokens.now c.in_ok-number.rest.now c.in_ok-number.ensures.ok)

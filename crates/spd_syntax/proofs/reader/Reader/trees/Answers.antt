@@ -1,4 +1,4 @@
-use Rattle.std.proofs.Common.{◌≡◌, ◌∙◌, ◌++◌, ◌∷◌, [], List, ap, sym, subst, length, length-append, lit<, arith}
+use Rattle.std.proofs.Common.{◌∙◌, ◌∷◌, [], List, ap, sym, subst, length, length-append, lit<, arith}
 use Rattle.spd_lex.specs.declared.token.Kind.TheVariants.{Open}
 use Rattle.spd_syntax.specs.declared.file.Quantity.TheVariants.{Reward}
 use Rattle.spd_syntax.specs.declared.file.Shape.{Shape}

@@ -1,7 +1,5 @@
-use Rattle.std.proofs.Common.{◌≡◌, ◌+◌, ◌-◌, ◌∙◌, ◌++◌, ◌∷◌, [], List, ap, sym, subst, length, length-append, arith}
-use Rattle.spd_lex.specs.declared.token.Token.{Token}
+use Rattle.std.proofs.Common.{◌+◌, ◌-◌, ◌∙◌, ◌∷◌, [], List, ap, sym, subst, length, length-append, arith}
 use Rattle.spd_syntax.specs.declared.file.Word.{Word}
-use Rattle.spd_syntax.specs.Words.{text_of}
 use Rattle.spd_syntax.specs.Positions.{first_value}
 use Rattle.spd_syntax.specs.Files.{Each, AValue}
 use Rattle.spd_syntax.proofs.Moves.{refused_exit, word_longer}

@@ -1,0 +1,9 @@
+use Rattle.std.proofs.Common.{◌+◌, ◌*◌}
+use Rattle.spd_gather.specs.Lists.{rank_of}
+use Rattle.spd_gather.proofs.make.+make.Given as goal
+
+abbrev pub decreases-make_anew : goal.decreases-make_anew
+decreases-make_anew g l = 2 * rank_of (g.F.Forest.shows l.forest.now) l.list.now
+
+abbrev pub decreases-make_list : goal.decreases-make_list
+decreases-make_list g l = 2 * rank_of (g.F.Forest.shows l.forest.now) l.list.now + 1

@@ -1,0 +1,4 @@
+pub mod Down
+pub mod Lists
+pub mod Meeting
+pub mod Rows

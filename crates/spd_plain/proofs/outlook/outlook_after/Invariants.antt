@@ -1,7 +1,0 @@
-use Rattle.std.proofs.Common.{◌≡◌, map}
-use Rattle.spd_model.specs.Numbers.{numbers_below}
-use Rattle.spd_plain.specs.inner.Outlooks.{known_of}
-use Rattle.spd_plain.proofs.outlook.outlook_after.Given as goal
-
-abbrev pub invariant-loop-var : goal.invariant-loop-var
-invariant-loop-var l = l.chances.items ≡ map (known_of l.model l.action l.s) (numbers_below l.var)

@@ -1,0 +1,118 @@
+-- The words of a line, and the sides of a word.
+use Rattle.std.proofs.Common.{◌≡◌, ℕ, zero, suc, ◌+◌, ◌<◌, ◌≤◌, ⊎_elim, true, false, Bool, not, List, [], ◌∷◌, length, length-take-le, take, drop, Option, Some, None, refl, sym, ap, ◌∙◌, subst, arith}
+use Rattle.std.specs.Prelude.{filter, ◌&&◌, slice_get, if◌then◌else◌}
+use Rattle.std.specs.List.{slice_split, position_or_len, list_any}
+use Rattle.std.proofs.Math.ListN.{get_or}
+use Rattle.std.proofs.Math.Seq.{drop-cons}
+use Rattle.std.proofs.lemmas.List.{take_all, drop_all, length-drop}
+use Rattle.std.proofs.lemmas.List.Splits.{slice_split-cons_yes, slice_split_first, slice_split_none}
+use Rattle.std.proofs.lemmas.List.Sums.{passes_at_first, fails_before_first}
+use Rattle.std.proofs.lemmas.Option.{slice_get_cases}
+use Rattle.spd_query.specs.Lines.{is_blank, is_empty, words_of, is_equals, sides_of}
+use Rattle.spd_query.specs.inner.Places.{IsAtWord}
+
+abbrev is_word : List ℕ → Bool
+is_word word = not (is_empty word)
+
+-- a blank stands before no word
+pub words-blank : (byte : ℕ) (line : List ℕ) → is_blank byte ≡ true → words_of (byte ∷ line) ≡ words_of line
+words-blank byte line h = ap (filter is_word) (slice_split-cons_yes is_blank byte line h)
+
+-- a word that isn't empty is kept
+filter-word : (word : List ℕ) (others : List (List ℕ)) → is_empty word ≡ false → filter is_word (word ∷ others) ≡ word ∷ filter is_word others
+filter-word [] others h = absurd (cc)
+filter-word (byte ∷ bytes) others h = refl
+
+take-some : (n byte : ℕ) (bytes : List ℕ) → 0 < n → is_empty (take n (byte ∷ bytes)) ≡ false
+take-some zero byte bytes h = absurd (omega arith)
+take-some (suc n) byte bytes h = refl
+
+-- where the first one does not pass, the first that passes stands later
+position-later : (p : ℕ → Bool) (byte : ℕ) (bytes : List ℕ) → p byte ≡ false → 0 < position_or_len p (byte ∷ bytes)
+position-later p byte bytes h = rw h (omega arith)
+
+first-word : (line : List ℕ) → 0 < length line → IsAtWord line → is_empty (take (position_or_len is_blank line) line) ≡ false
+first-word [] some at = absurd (omega arith)
+first-word (byte ∷ bytes) some at = take-some (position_or_len is_blank (byte ∷ bytes)) byte bytes (position-later is_blank byte bytes at)
+
+-- the first word of a line, and the words behind it
+pub words-first : (line : List ℕ) → 0 < length line → IsAtWord line → words_of line ≡ take (position_or_len is_blank line) line ∷ words_of (drop (position_or_len is_blank line) line)
+words-first line some at =
+    let n = position_or_len is_blank line in
+    ⊎_elim
+    (λ (t : (x : ℕ) × (n < length line) × (slice_get line n ≡ Some x) × (get_or line n x ≡ x)).
+    let rest = drop (suc n) line in
+    let next : drop n line ≡ get_or line n 0 ∷ rest = drop-cons line n 0 t.1 in
+    let blank : is_blank (get_or line n 0) ≡ true = passes_at_first is_blank line 0 t.1 in
+    let count : n + 1 ≡ suc n = omega arith in
+    let more : drop (n + 1) line ≡ rest = ap (λ (k : ℕ). drop k line) count in
+    ap (filter is_word) (slice_split_first is_blank line 0 t.1) ∙ filter-word (take n line) (slice_split is_blank (drop (n + 1) line)) (first-word line some at)
+    ∙ ap (λ l. take n line ∷ words_of l) more ∙ ap (λ l. take n line ∷ l) (sym (ap words_of next ∙ words-blank (get_or line n 0) rest blank)))
+    (λ (t : (length line ≤ n) × (slice_get line n ≡ None)).
+    let none : slice_split is_blank line ≡ line ∷ [] = slice_split_none is_blank line (λ k d h. fails_before_first is_blank line k d (omega arith)) in
+    let whole : take n line ≡ line = take_all n line t.0 in
+    ap (filter is_word) none ∙ filter-word line [] (subst (λ (l : List ℕ). is_empty l ≡ false) whole (first-word line some at))
+    ∙ ap (λ l. l ∷ []) (sym whole) ∙ ap (λ l. take n line ∷ words_of l) (sym (drop_all n line t.0)))
+    (slice_get_cases line n).1
+
+-- ---- the sides of a word
+
+-- what stands before place k and behind it, where neither is empty and no `=` stands behind it
+abbrev sides_at : List ℕ → ℕ → Option (List ℕ × List ℕ)
+sides_at word k =
+    if not (is_empty (take k word)) && (not (is_empty (drop (k + 1) word)) && not (list_any is_equals (drop (k + 1) word))) then Some (take k word, drop (k + 1) word) else None
+
+and-false : (a b : Bool) → b ≡ false → a && b ≡ false
+and-false true b h = h
+and-false false b h = refl
+
+choice-false : {X : Type 0} (b : Bool) (x y : X) → b ≡ false → (if b then x else y) ≡ y
+choice-false true x y h = absurd (cc)
+choice-false false x y h = refl
+
+-- nothing stands before it
+pub sides-no_name : (word : List ℕ) → position_or_len is_equals word ≡ 0 → sides_of word ≡ None
+sides-no_name word h = ap (sides_at word) h
+
+-- nothing stands behind it
+pub sides-no_value : (word : List ℕ) → length word ≤ position_or_len is_equals word + 1 → sides_of word ≡ None
+sides-no_value word h =
+    let n = position_or_len is_equals word in
+    let none : drop (n + 1) word ≡ [] = drop_all (n + 1) word h in
+    let closed : not (is_empty (drop (n + 1) word)) && not (list_any is_equals (drop (n + 1) word)) ≡ false = ap (λ (l : List ℕ). not (is_empty l) && not (list_any is_equals l)) none in
+    choice-false _ _ _ (and-false (not (is_empty (take n word))) _ closed)
+
+any-first : (p : ℕ → Bool) (xs : List ℕ) → position_or_len p xs < length xs → list_any p xs ≡ true
+any-first p [] h = absurd (omega arith)
+any-first p (x ∷ xs) h = by_head (p x) refl (λ within. any-first p xs within)
+  where
+    by_head : (b : Bool) → p x ≡ b → (position_or_len p xs < length xs → list_any p xs ≡ true) → list_any p (x ∷ xs) ≡ true
+    by_head true e others = rw e refl
+    by_head false e others = let h' = rw e at h in rw e (others (omega arith))
+
+any-none : (p : ℕ → Bool) (xs : List ℕ) → length xs ≤ position_or_len p xs → list_any p xs ≡ false
+any-none p [] h = refl
+any-none p (x ∷ xs) h = by_head (p x) refl (λ past. any-none p xs past)
+  where
+    by_head : (b : Bool) → p x ≡ b → (length xs ≤ position_or_len p xs → list_any p xs ≡ false) → list_any p (x ∷ xs) ≡ false
+    by_head true e others = let h' = rw e at h in absurd (omega arith)
+    by_head false e others = let h' = rw e at h in rw e (others (omega arith))
+
+empty-some : (xs : List ℕ) → 0 < length xs → is_empty xs ≡ false
+empty-some [] h = absurd (omega arith)
+empty-some (x ∷ xs) h = refl
+
+module _ (word : List ℕ) (n : ℕ) (at : n ≡ position_or_len is_equals word) (some : 0 < n) (more : n + 1 < length word) where
+  name : is_empty (take n word) ≡ false
+  name = empty-some (take n word) (omega (arith, length-take-le n word (omega arith)))
+
+  value : is_empty (drop (n + 1) word) ≡ false
+  value = empty-some (drop (n + 1) word) (omega (arith, length-drop (n + 1) word))
+
+  -- another `=` stands behind it
+  pub sides-more : position_or_len is_equals (drop (n + 1) word) < length (drop (n + 1) word) → sides_of word ≡ None
+  sides-more h = ap (sides_at word) (sym at) ∙ rw (name, value, any-first is_equals (drop (n + 1) word) h) refl
+
+  -- both sides
+  pub sides-both : length (drop (n + 1) word) ≤ position_or_len is_equals (drop (n + 1) word) → sides_of word ≡ Some (take n word, drop (n + 1) word)
+  sides-both h = ap (sides_at word) (sym at) ∙ rw (name, value, any-none is_equals (drop (n + 1) word) h) refl

@@ -1,0 +1,117 @@
+//! Reading a line.
+
+ghost use Rattle.std.specs.Prelude.{◌≡◌, ◌≤◌, length, map, Ok, Err, All, IfOk, MatchResult};
+ghost use Rattle.spd_model.specs.declared.process.Var.{Var as Variable};
+ghost use Rattle.spd_model.specs.Lawful.{AreDistinct};
+ghost use Rattle.spd_model.specs.States.{sizes, IsState};
+ghost use Rattle.spd_query.specs.inner.Places.{FitsQuery};
+ghost use Rattle.spd_query.specs.Lines.{words_of, with_word, with_words, gathered, state_of_words, query_of};
+
+use crate::line::{Query, Reason};
+use crate::names::Hints;
+use crate::pair::sides;
+use crate::words::{all_may_stand, split_word};
+use spd_model::{Model, State, Var};
+
+/// A line has at most so many bytes.
+const MOST: usize = 4096;
+
+/// Takes the value that a word gives a variable.
+fn take_word(
+    vars: &[Var],
+    hints: &mut Hints,
+    given: &mut [Option<u8>],
+    word: &[u8],
+) -> Result<(), Reason>
+    requires few { length vars.now ≤ 100 }
+    requires distinct { AreDistinct (map (λ (x : Variable). x.name) vars.now) }
+    requires few_values { All (λ (x : Variable). length x.values ≤ 64) vars.now }
+    requires one_each { length given.old ≡ length vars.now }
+    ensures { MatchResult result (λ _. with_word vars.now given.old word.now ≡ Ok given.new) (λ reason. with_word vars.now given.old word.now ≡ Err reason) }
+{
+    let Some((name, value)) = sides(word) else {
+        return Err(Reason::Pair);
+    };
+    let Some((var, value)) = hints.numbers(vars, name, value) else {
+        return Err(Reason::Unknown);
+    };
+    if given[var].is_some() {
+        return Err(Reason::Twice);
+    }
+    given[var] = Some(value);
+    Ok(())
+}
+
+/// Takes the values that the words of a line give the variables.
+fn take_words(vars: &[Var], given: &mut [Option<u8>], line: &[u8]) -> Result<(), Reason>
+    requires few { length vars.now ≤ 100 }
+    requires distinct { AreDistinct (map (λ (x : Variable). x.name) vars.now) }
+    requires few_values { All (λ (x : Variable). length x.values ≤ 64) vars.now }
+    requires one_each { length given.old ≡ length vars.now }
+    ensures { MatchResult result (λ _. with_words vars.now given.old (words_of line.now) ≡ Ok given.new) (λ reason. with_words vars.now given.old (words_of line.now) ≡ Err reason) }
+{
+    let mut hints = Hints::new();
+    let mut rest = line;
+    while let Some((word, behind)) = split_word(rest) {
+        take_word(vars, &mut hints, given, word)?;
+        rest = behind;
+    }
+    Ok(())
+}
+
+/// The state of these values, where there is one for each variable.
+fn gather(given: &[Option<u8>]) -> Option<State>
+    requires { length given.now ≤ 100 }
+    ensures { result ≡ gathered given.now }
+{
+    let mut values = [0; 100];
+    for (var, value) in given.iter().enumerate() {
+        match value {
+            Some(value) => values[var] = *value,
+            None => return None,
+        }
+    }
+    Some(State::of(&values[..given.len()]))
+}
+
+/// The state that the words of a line name.
+fn read_state(vars: &[Var], line: &[u8]) -> Result<State, Reason>
+    requires few { length vars.now ≤ 100 }
+    requires distinct { AreDistinct (map (λ (x : Variable). x.name) vars.now) }
+    requires few_values { All (λ (x : Variable). length x.values ≤ 64) vars.now }
+    ensures read { result ≡ state_of_words vars.now (words_of line.now) }
+    ensures fits { IfOk result (IsState (map (λ (x : Variable). length x.values) vars.now)) }
+{
+    let mut given = [None; 100];
+    let given = &mut given[..vars.len()];
+    match take_words(vars, given, line) {
+        Ok(()) => gather(given).ok_or(Reason::Missing),
+        Err(reason) => Err(reason),
+    }
+}
+
+/// What a line asks for, or why it is refused.
+pub(crate) fn read_line(line: &[u8], model: &Model) -> Result<Query, Reason>
+    ensures read { result ≡ query_of model.now.vars line.now }
+    ensures fits { IfOk result (FitsQuery (sizes model.now)) }
+{
+    if line.len() > MOST {
+        return Err(Reason::Long);
+    }
+    if !all_may_stand(line) {
+        return Err(Reason::Byte);
+    }
+    let Some((word, rest)) = split_word(line) else {
+        return Err(Reason::Word);
+    };
+    if word == b"state".as_slice() {
+        return match read_state(model.vars.as_slice(), rest) {
+            Ok(state) => Ok(Query::State(state)),
+            Err(reason) => Err(reason),
+        };
+    }
+    if word == b"status".as_slice() && split_word(rest).is_none() {
+        return Ok(Query::Status);
+    }
+    Err(Reason::Word)
+}

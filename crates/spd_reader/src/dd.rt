@@ -1,0 +1,9 @@
+use crate::facts::Facts;
+use spd_model::Tree;
+
+/// A decision diagram: its tree, and what a use of it asks.
+#[derive(Drop)]
+pub struct Dd {
+    pub tree: Tree,
+    pub facts: Facts,
+}

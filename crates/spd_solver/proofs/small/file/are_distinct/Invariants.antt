@@ -1,9 +1,0 @@
-use Rattle.std.proofs.Common.{◌≡◌, length}
-use Rattle.spd_solver.specs.inner.SmallReading.{are_distinct}
-use Rattle.spd_solver.proofs.small.file.are_distinct.Given as goal
-
-abbrev pub invariant-loop-rest : goal.invariant-loop-rest
-invariant-loop-rest l = are_distinct l.rest ≡ are_distinct l.names
-
-abbrev pub decreases-loop-rest : goal.decreases-loop-rest
-decreases-loop-rest l = length l.rest

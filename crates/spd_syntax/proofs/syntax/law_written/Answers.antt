@@ -1,5 +1,0 @@
-use Rattle.spd_syntax.proofs.FileMoves.{written_no_fault}
-use Rattle.spd_syntax.proofs.syntax.law_written.Goals as goal
-
-pub returns : goal.returns
-returns c = written_no_fault

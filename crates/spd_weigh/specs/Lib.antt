@@ -1,0 +1,4 @@
+pub mod Discounting
+pub mod Leaves
+pub mod Summed
+pub mod Weighing

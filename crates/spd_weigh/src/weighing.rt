@@ -1,0 +1,281 @@
+//! How summing out goes down from a list of weights and values.
+
+ghost use Rattle.std.specs.Prelude.{◌≡◌, ◌⊎◌, ℕ, ◌<◌, ◌≤◌, ◌+◌, ◌*◌, ◌/◌, ◌^◌, List, map, drop, length, IfOk, IfSome, All, Contains, None, true, IsTrue, pos, ◌≤ℤ◌, ◌*ℤ◌};
+ghost use Rattle.spd_model.specs.Chances.{one};
+ghost use Rattle.spd_nodes.specs.Levels.{levels_of, slots};
+ghost use Rattle.spd_nodes.specs.Shown.{Shown, IsSound, MakesTree};
+ghost use Rattle.spd_nodes.specs.Trees.{Tree, Ends};
+ghost use Rattle.spd_apply.specs.Halves.{IsNotBefore, IsLeaf};
+ghost use Rattle.spd_restrict.specs.Restricted.{cofactored};
+ghost use Rattle.spd_gather.specs.Down.{Each, last_leaf};
+ghost use Rattle.spd_gather.specs.Lists.{trees_of, AreKnown, AreMet, IsListPlan};
+ghost use Rattle.spd_weigh.specs.Leaves.{number_of as number_at};
+ghost use Rattle.spd_weigh.specs.Summed.{summed, taken, weighed, MaySum, IsAlone, IsLike, zero_tree, each_fits, fit, weights, products};
+
+use crate::way::Way;
+use spd_apply::OpFault;
+use spd_gather::{ListPlan, ListRule, halves_of, lowest_level};
+use spd_nodes::{Forest, Leaf, Ref, Steps, View};
+use spd_scaled::{ceil_div, floor_div};
+use std::alloc::{AllocError, Global};
+use std::sync::ledger::Ledger;
+
+/// Weights and values in turn, weighed and summed over a slot: `first` and `end` are the number of its first test and the one
+/// after its last test, `levels` the number of all levels.
+#[derive(Clone, Copy)]
+pub struct Weighing {
+    pub levels: u16,
+    pub first: u16,
+    pub end: u16,
+    pub way: Way,
+}
+
+/// Whether a Ref is the leaf 0.
+fn is_zero<F: Forest>(forest: &mut F, r: Ref) -> bool
+    requires known { (F.shows forest.old).knows r ≡ true }
+    ensures same { F.shows forest.new ≡ F.shows forest.old }
+    ensures keeps { F.kept forest.new ≡ F.kept forest.old }
+    ensures zero { IsTrue result → (F.shows forest.old).tree r ≡ zero_tree }
+{
+    match forest.view(r) {
+        View::Leaf(Leaf::Num(x)) => x == 0,
+        _ => false,
+    }
+}
+
+/// Whether a Ref is a leaf or tests a level from `end` on first.
+fn is_past<F: Forest>(forest: &mut F, r: Ref, end: u16) -> bool
+    requires known { (F.shows forest.old).knows r ≡ true }
+    ensures same { F.shows forest.new ≡ F.shows forest.old }
+    ensures keeps { F.kept forest.new ≡ F.kept forest.old }
+    ensures past { IsTrue result → IsNotBefore end ((F.shows forest.old).tree r) }
+{
+    match forest.view(r) {
+        View::Leaf(_) => true,
+        View::Test { level, .. } => end <= level.0,
+    }
+}
+
+/// Puts a weight in the place of its value where it is 0.
+fn clear_value<F: Forest>(forest: &mut F, list: &mut Vec<Ref>, v: usize)
+    requires known { AreKnown (F.shows forest.old) list.old.items }
+    requires v { 2 * v + 1 < length list.old.items }
+    ensures same { F.shows forest.new ≡ F.shows forest.old }
+    ensures keeps { F.kept forest.new ≡ F.kept forest.old }
+    ensures length { length list.new.items ≡ length list.old.items }
+    ensures known { AreKnown (F.shows forest.old) list.new.items }
+    ensures like { (ts : List Tree) → IsLike ts (trees_of (F.shows forest.old) list.old.items) → IsLike ts (trees_of (F.shows forest.old) list.new.items) }
+{
+    let weight = list[2 * v];
+    if is_zero(forest, weight) {
+        list[2 * v + 1] = weight;
+    }
+}
+
+/// Puts each weight of 0 in the place of its value too. Any value may stand there, so lists with the same sum become one.
+pub fn clear<F: Forest>(forest: &mut F, list: &mut Vec<Ref>)
+    requires known { AreKnown (F.shows forest.old) list.old.items }
+    ensures same { F.shows forest.new ≡ F.shows forest.old }
+    ensures keeps { F.kept forest.new ≡ F.kept forest.old }
+    ensures known { AreKnown (F.shows forest.old) list.new.items }
+    ensures like { IsLike (trees_of (F.shows forest.old) list.old.items) (trees_of (F.shows forest.old) list.new.items) }
+{
+    for v in 0..list.len() / 2 {
+        clear_value(forest, list, v);
+    }
+}
+
+/// The first value whose weight isn't 0.
+fn first_weighed<F: Forest>(forest: &mut F, list: &[Ref]) -> Option<Ref>
+    requires known { AreKnown (F.shows forest.old) list.now }
+    ensures same { F.shows forest.new ≡ F.shows forest.old }
+    ensures keeps { F.kept forest.new ≡ F.kept forest.old }
+    ensures known { IfSome result (λ r. (F.shows forest.old).knows r ≡ true) }
+{
+    for v in 0..list.len() / 2 {
+        let weight = list[2 * v];
+        if !is_zero(forest, weight) {
+            return Some(list[2 * v + 1]);
+        }
+    }
+    None
+}
+
+/// Whether a weight is 0 or stands before this value.
+fn is_zero_or<F: Forest>(forest: &mut F, weight: Ref, found: Ref, value: Ref) -> bool
+    requires known { (F.shows forest.old).knows weight ≡ true }
+    ensures same { F.shows forest.new ≡ F.shows forest.old }
+    ensures keeps { F.kept forest.new ≡ F.kept forest.old }
+    ensures fits { IsTrue result → ((F.shows forest.old).tree weight ≡ zero_tree) ⊎ ((F.shows forest.old).tree found ≡ (F.shows forest.old).tree value) }
+{
+    if found == value {
+        return true;
+    }
+    is_zero(forest, weight)
+}
+
+/// Whether each weight is 0 or stands before this value.
+fn is_alone<F: Forest>(forest: &mut F, value: Ref, list: &[Ref]) -> bool
+    requires known { AreKnown (F.shows forest.old) list.now }
+    ensures same { F.shows forest.new ≡ F.shows forest.old }
+    ensures keeps { F.kept forest.new ≡ F.kept forest.old }
+    ensures alone { IsTrue result → IsAlone ((F.shows forest.old).tree value) (trees_of (F.shows forest.old) list.now) }
+{
+    for v in 0..list.len() / 2 {
+        if !is_zero_or(forest, list[2 * v], list[2 * v + 1], value) {
+            return false;
+        }
+    }
+    true
+}
+
+/// A Ref at a value of the slot. Calls nest at most 64 deep.
+fn at_value<F: Forest>(forest: &mut F, r: Ref, first: u16, end: u16, value: u16) -> Ref
+    requires known { (F.shows forest.old).knows r ≡ true }
+    requires sound { IsSound (F.shows forest.old) }
+    requires room { first + value < 2 ^ 16 }
+    requires not_before { IsNotBefore first ((F.shows forest.old).tree r) }
+    ensures same { F.shows forest.new ≡ F.shows forest.old }
+    ensures keeps { F.kept forest.new ≡ F.kept forest.old }
+    ensures known { (F.shows forest.old).knows result ≡ true }
+    ensures tree { (F.shows forest.old).tree result ≡ cofactored first end value ((F.shows forest.old).tree r) }
+{
+    match forest.view(r) {
+        View::Leaf(_) => r,
+        View::Test { level, yes, no } => {
+            if level.0 >= end {
+                r
+            } else if level.0 == first + value {
+                yes
+            } else {
+                at_value(forest, no, first, end, value)
+            }
+        }
+    }
+}
+
+/// Each Ref at its value of the slot: two in turn have one value.
+fn at_slot<F: Forest>(
+    alloc: Global,
+    forest: &mut F,
+    list: &[Ref],
+    first: u16,
+    end: u16,
+) -> Result<Vec<Ref>, AllocError>
+    requires sound { IsSound (F.shows forest.old) }
+    requires known { AreKnown (F.shows forest.old) list.now }
+    requires not_before { All (λ r. IsNotBefore first ((F.shows forest.old).tree r)) list.now }
+    requires short { length list.now ≤ 128 }
+    requires room { first ≤ 512 }
+    ensures same { F.shows forest.new ≡ F.shows forest.old }
+    ensures keeps { F.kept forest.new ≡ F.kept forest.old }
+    ensures known { IfOk result (λ v. AreKnown (F.shows forest.old) v.items) }
+    ensures trees { IfOk result (λ v. trees_of (F.shows forest.old) v.items ≡ taken first end 0 (trees_of (F.shows forest.old) list.now)) }
+{
+    let mut at = Vec::with_capacity(alloc, list.len())?;
+    for i in 0..list.len() {
+        let r = at_value(forest, list[i], first, end, (i / 2) as u16);
+        at.push(r)?;
+    }
+    Ok(at)
+}
+
+/// The number of a leaf.
+fn number_of<F: Forest>(forest: &mut F, r: Ref) -> i128
+    requires known { (F.shows forest.old).knows r ≡ true }
+    requires leaf { IsLeaf ((F.shows forest.old).tree r) }
+    ensures same { F.shows forest.new ≡ F.shows forest.old }
+    ensures keeps { F.kept forest.new ≡ F.kept forest.old }
+    ensures number { result ≡ number_at (last_leaf ((F.shows forest.old).tree r)) }
+{
+    match forest.view(r) {
+        View::Leaf(Leaf::Num(x)) => x,
+        _ => 0,
+    }
+}
+
+/// The sum of each value times its weight, from a place on. Calls nest at most 64 deep.
+fn sum_products<F: Forest>(forest: &mut F, list: &[Ref], at: usize) -> i128
+    requires known { AreKnown (F.shows forest.old) list.now }
+    requires leaves { All (λ r. IsLeaf ((F.shows forest.old).tree r)) list.now }
+    requires at { at ≤ length list.now }
+    requires fit { each_fits (map last_leaf (trees_of (F.shows forest.old) (drop at list.now))) ≡ true }
+    requires total { weights (map last_leaf (trees_of (F.shows forest.old) (drop at list.now))) ≤ℤ one }
+    ensures same { F.shows forest.new ≡ F.shows forest.old }
+    ensures keeps { F.kept forest.new ≡ F.kept forest.old }
+    ensures sum { result ≡ products (map last_leaf (trees_of (F.shows forest.old) (drop at list.now))) }
+{
+    if at + 1 >= list.len() {
+        return 0;
+    }
+    let w = number_of(forest, list[at]);
+    let f = number_of(forest, list[at + 1]);
+    let sum = sum_products(forest, list, at + 2);
+    w * f + sum
+}
+
+/// The weighed sum of leaves, rounded.
+fn weighed_leaf<F: Forest>(forest: &mut F, way: Way, list: &[Ref]) -> Leaf
+    requires known { AreKnown (F.shows forest.old) list.now }
+    requires leaves { Each IsLeaf (trees_of (F.shows forest.old) list.now) }
+    requires fit { fit (map last_leaf (trees_of (F.shows forest.old) list.now)) ≡ true }
+    ensures same { F.shows forest.new ≡ F.shows forest.old }
+    ensures keeps { F.kept forest.new ≡ F.kept forest.old }
+    ensures leaf { result ≡ weighed way (map last_leaf (trees_of (F.shows forest.old) list.now)) }
+{
+    let sum = sum_products(forest, list, 0);
+    Leaf::Num(match way {
+        Way::Down => floor_div(sum, 1_000_000_000_000),
+        Way::Up => ceil_div(sum, 1_000_000_000_000),
+    })
+}
+
+impl ListRule for Weighing {
+    ghost making = { λ r ts. summed r.levels r.first r.end (weighed r.way) ts };
+
+    ghost may = { λ r sizes ts. MaySum r.levels r.first r.end sizes ts };
+
+    ghost ends = { λ r sizes ts. Each IsLeaf ts };
+
+    fn known<F: Forest>(&self, forest: &mut F, list: &[Ref]) -> Option<Ref> {
+        let value = first_weighed(forest, list)?;
+        if is_past(forest, value, self.end) && is_alone(forest, value, list) {
+            Some(value)
+        } else {
+            None
+        }
+    }
+
+    fn plan<F: Forest>(
+        &self,
+        alloc: Global,
+        forest: &mut F,
+        list: &[Ref],
+    ) -> Result<ListPlan, AllocError> {
+        match lowest_level(forest, list) {
+            None => Ok(ListPlan::Bottom),
+            Some(level) => {
+                if self.first <= level.0 && level.0 < self.end {
+                    let mut below = at_slot(alloc, forest, list, self.first, self.end)?;
+                    clear(forest, &mut below);
+                    Ok(ListPlan::Below(below))
+                } else {
+                    let (mut yes, mut no) = halves_of(alloc, forest, list, level)?;
+                    clear(forest, &mut yes);
+                    clear(forest, &mut no);
+                    Ok(ListPlan::Test { level, yes, no })
+                }
+            }
+        }
+    }
+
+    fn bottom<F: Forest, L: Ledger>(
+        &self,
+        forest: &mut F,
+        list: &[Ref],
+        steps: &mut Steps<L>,
+    ) -> Result<Ref, OpFault> {
+        let leaf = weighed_leaf(forest, self.way, list);
+        forest.leaf(leaf, steps)
+    }
+}
