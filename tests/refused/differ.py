@@ -3,7 +3,8 @@
 
     differ.py PROGRAM [SEED [COUNT]]      prints each file on which they differ, and keeps it as `differ-SEED-NUMBER` in the folder where it is run
 
-A file is changed at the level of bytes, of words, or of whole groups in brackets, once or a few times. Each is solved for few turns."""
+A file is changed at the level of bytes, of words, or of whole groups in brackets, once or a few times. One change in two puts a word of the
+file in another's place, so that names are at fault. Each file is solved for few turns."""
 import glob, os, random, sys
 
 sys.dont_write_bytecode = True
@@ -31,8 +32,21 @@ def spans(data):
     return found
 
 
+def is_word(data, place):
+    return data[place[0]:place[0] + 1] not in (b"(", b")", b"[", b"]")
+
+
+def renamed(data, places, pick):
+    """A word of the file in the place of another: such a file is mostly at fault in its names."""
+    words = [place for place in places if is_word(data, place)]
+    (low, high), (first, last) = pick.choice(words), pick.choice(words)
+    return data[:low] + data[first:last] + pick.choice([b"", b"", b"", b"'"]) + data[high:]
+
+
 def changed(data, pick):
     places = spans(data)
+    if any(is_word(data, place) for place in places) and pick.randrange(2):
+        return renamed(data, places, pick)
     kind = pick.randrange(8)
     if kind == 0 or not places:
         at = pick.randrange(len(data) + 1)

@@ -4,8 +4,9 @@
     make.py FOLDER [BYTES]            writes tree, actions, dds, comments and names into FOLDER, each of about BYTES bytes (4,194,304)
     make.py --measure PROGRAM FOLDER  prints the time and the memory of `solve` on each file there, and on files of a half and of a quarter
 
-Each has more than 4,096 states, so that it is read and then answered with `too many states`: what is measured is the reading alone."""
-import os, resource, subprocess, sys, time
+Each has more than 4,096 states, so that it is read and then answered with `too many states`: what is measured is the reading alone. Memory
+below some 40 MB isn't told apart, since the system counts that of Python too, which starts the program."""
+import os, subprocess, sys, time
 
 LIMIT = 4_194_304
 SHAPES = ("tree", "actions", "dds", "comments", "names")
@@ -60,9 +61,11 @@ def actions(size):
 def dds(size):
     """4,096 decision diagrams in rows of 128. Each is a full tree of uses of those in the row before."""
     names, start = head(13)
-    lines = []
+    lines, leaves = [], 8
+    while leaves * 2 * 4096 * 30 < size:
+        leaves *= 2
     for k in range(4096):
-        uses = ["(diagram%d)" % ((k // 128 - 1) * 128 + (k * 31 + n * 7) % 128) if k >= 128 else "(0.5)" for n in range(32)]
+        uses = ["(diagram%d)" % ((k // 128 - 1) * 128 + (k * 31 + n * 7) % 128) if k >= 128 else "(0.5)" for n in range(leaves)]
         lines.append("dd diagram%d %s enddd" % (k, full_tree(names, uses)))
     return start + "\n".join(lines) + "\n" + action("a", ["%s (0.5)" % n for n in names]) + END.replace("(0)", "(diagram4095)", 1)
 
@@ -106,11 +109,11 @@ def measure(program, folder):
         for size in (LIMIT // 4, LIMIT // 2, LIMIT):
             file = os.path.join(folder, "%s-%d.spudd" % (shape, size))
             began = time.time()
-            child = subprocess.Popen([os.path.abspath(program), "solve", file], stdout=subprocess.PIPE, stderr=subprocess.PIPE)
-            message = child.communicate()[1].decode("latin-1").strip()
-            used = resource.getrusage(resource.RUSAGE_CHILDREN)
-            print("%-9s %9d bytes  %6.3f s  %s" % (shape, size, time.time() - began, message))
-            print("          greatest memory of a run so far: %d KB, %.1f bytes a byte" % (used.ru_maxrss, used.ru_maxrss * 1024 / size))
+            child = subprocess.Popen([os.path.abspath(program), "solve", file], stdout=subprocess.DEVNULL, stderr=subprocess.PIPE)
+            message = child.stderr.read().decode("latin-1").strip()
+            used = os.wait4(child.pid, 0)[2]
+            print("%-9s %9d bytes  %6.3f s, of them %6.3f computing  %7d KB, %5.1f bytes a byte  %s" %
+                  (shape, size, time.time() - began, used.ru_utime, used.ru_maxrss, used.ru_maxrss * 1024 / size, message))
 
 
 def main():

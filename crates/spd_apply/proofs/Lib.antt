@@ -1,12 +1,14 @@
 pub mod CallerLemmas
 pub mod AppliedLaws
 pub mod BelowLaws
+pub mod CostLaws
 pub mod FitLaws
 pub mod HalfLaws
 pub mod LeavesLaws
 pub mod MapLaws
 pub mod MeetingLaws
 pub mod MemoLaws
+pub mod PairLaws
 pub mod PlanLaws
 pub mod RoundingLaws
 pub mod WholeLaws

@@ -4,7 +4,7 @@ use Rattle.spd_cons_core.specs.declared.key.Entry.{Entry}
 use Rattle.spd_nodes.specs.declared.leaf.Leaf.{Leaf}
 use Rattle.spd_nodes.specs.declared.leaf.Leaf.TheVariants.{Act}
 use Rattle.spd_nodes.specs.Levels.{levels_of, slots}
-use Rattle.spd_nodes.specs.Trees.{Ends, Tests, IsFrom, IsReduced, value_at}
+use Rattle.spd_nodes.specs.Trees.{Ends, Tests, Itself, InYes, InNo, IsFrom, IsReduced, value_at}
 use Rattle.spd_nodes.specs.States.{point, plain_part, primed_part}
 use Rattle.spd_nodes.specs.Shown.{Shown, IsSound, IsWhole, meaning}
 use Rattle.spd_nodes.proofs.CallerLemmas.{IsTreeFor, IsPointOf, point-parts, positive-slots, rank-view, tree_of-agree, tree_of-value_at}
@@ -21,9 +21,9 @@ module _ (map : Leaf → Leaf) (fits : Leaf → Bool) (s : Shown) (o : IsSound s
   abbrev ds : List ℕ
   ds = slots s.sizes
 
-  pub map-plans : (g y n : Entry) (l : ℕ) → EachFits fits (s.tree f) → s.tree f ≡ Tests l (s.tree y) (s.tree n) → s.knows y ≡ true → s.knows n ≡ true
-      → PlansTest (λ t u. mapped map t) (λ t u. EachFits fits t) s f g l (B.Pair y y) (B.Pair n n)
-  map-plans g y n l h e ky kn =
+  pub map-plans : (g y n : Entry) (l : ℕ) → EachFits fits (s.tree f) → s.tree f ≡ s.tree g → s.tree f ≡ Tests l (s.tree y) (s.tree n) → s.knows y ≡ true → s.knows n ≡ true
+      → PlansTest (λ t u. mapped map t) (λ t u. EachFits fits t × (t ≡ u)) s f g l (B.Pair y y) (B.Pair n n)
+  map-plans g y n l h same e ky kn =
       let r : IsReduced ds 0 (Tests l (s.tree y) (s.tree n)) = subst (λ t. IsReduced ds 0 t) e (o.reduced f kf) in
       let m : Meets ds l (Ends (Act 0)) (Tests l (s.tree y) (s.tree n)) = meets-right ds l (Ends (Act 0)) (s.tree y) (s.tree n) tt r tt in
       let can = (descends ds (levels_of ds) (applied (λ a b. map b)) (applied-goes ds (λ a b. map b)) l (Ends (Act 0)) (Tests l (s.tree y) (s.tree n)) m.level m).can_test in
@@ -33,8 +33,10 @@ module _ (map : Leaf → Leaf) (fits : Leaf → Bool) (s : Shown) (o : IsSound s
         level_in = m.level;
         is = rw e refl;
         can_test = rw (eq-refl l) at can;
-        yes_goes = record { left = ky; right = ky; trees = record { all = both.0 } };
-        no_goes = record { left = kn; right = kn; trees = record { all = both.1 } };
+        yes_goes = record { left = ky; right = ky; trees = (record { all = both.0 }, refl) };
+        no_goes = record { left = kn; right = kn; trees = (record { all = both.1 }, refl) };
+        yes_nodes = rw (sym same, e) (InYes Itself, InYes Itself);
+        no_nodes = rw (sym same, e) (InNo Itself, InNo Itself);
         yes_smaller = omega (arith, smaller.0);
         no_smaller = omega (arith, smaller.1);
       }

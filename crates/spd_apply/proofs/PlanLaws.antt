@@ -9,7 +9,7 @@ use Rattle.spd_nodes.specs.declared.layout.Level.{Level}
 use Rattle.spd_nodes.specs.declared.forest.View.{View}
 use Rattle.spd_nodes.specs.declared.forest.View.TheVariants as V
 use Rattle.spd_nodes.specs.Levels.{levels_of, slots, after}
-use Rattle.spd_nodes.specs.Trees.{Tree, Ends, Tests, tree_eq, tree_rank, join, IsAt}
+use Rattle.spd_nodes.specs.Trees.{Tree, Ends, Tests, IsNode, Itself, InYes, InNo, tree_eq, tree_rank, join, IsAt}
 use Rattle.spd_nodes.specs.Shown.{Shown, IsSound, KnowsAs, IsViewOf}
 use Rattle.spd_nodes.proofs.CallerLemmas.{after_above, rank-at, rank-from, tree_eq-true}
 use Rattle.spd_apply.specs.declared.rule.Below.TheVariants as B
@@ -94,6 +94,23 @@ lower-first s (V.Test j y n) (V.Test k v w) f g l h i e = rw (h.0, i.0) (go (nat
     go true q p = (let r : k.0 ≡ l.0 = ap (λ (x : Level). x.0) p in grind (arith, nat_tests), let r : k.0 ≡ l.0 = ap (λ (x : Level). x.0) p in omega arith)
     go false q p = (let r : j.0 ≡ l.0 = ap (λ (x : Level). x.0) p in omega arith, let r : j.0 ≡ l.0 = ap (λ (x : Level). x.0) p in grind (arith, nat_tests))
 
+-- a half of a tree is a node of it
+yes-node : (l : ℕ) (t : Tree) → IsNode (yes_at l t) t
+yes-node l (Ends a) = Itself
+yes-node l (Tests k y n) = go (k == l)
+  where
+    go : (b : Bool) → IsNode (cond b y (Tests k y n)) (Tests k y n)
+    go true = InYes Itself
+    go false = Itself
+
+no-node : (l : ℕ) (t : Tree) → IsNode (no_at l t) t
+no-node l (Ends a) = Itself
+no-node l (Tests k y n) = go (k == l)
+  where
+    go : (b : Bool) → IsNode (cond b n (Tests k y n)) (Tests k y n)
+    go true = InNo Itself
+    go false = Itself
+
 -- How an operation that goes down goes on from two entries before its level, if it may meet their halves.
 module _ (making : Making) (may : Tree → Tree → Type 0) (stop : ℕ) (s : Shown) (o : IsSound s) (f g : Entry) (kf : s.knows f ≡ true) (kg : s.knows g ≡ true)
     (aligned : IsAligned (slots s.sizes) (s.tree f) (s.tree g)) (d : GoesDown (slots s.sizes) stop making) where
@@ -121,6 +138,8 @@ module _ (making : Making) (may : Tree → Tree → Type 0) (stop : ℕ) (s : Sh
         can_test = rw (a.tree, b.tree, c.tree, e.tree) w.can_test;
         yes_goes = record { left = a.knows; right = c.knows; trees = rw (a.tree, c.tree) halves.yes };
         no_goes = record { left = b.knows; right = e.knows; trees = rw (b.tree, e.tree) halves.no };
+        yes_nodes = rw (a.tree, c.tree) (yes-node l (s.tree f), yes-node l (s.tree g));
+        no_nodes = rw (b.tree, e.tree) (no-node l (s.tree f), no-node l (s.tree g));
         yes_smaller = rw (a.tree, c.tree) (omega (arith, ry, rz, top));
         no_smaller = rw (b.tree, e.tree) (omega (arith, rn, rm, top));
       }

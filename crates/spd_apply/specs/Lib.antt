@@ -1,4 +1,5 @@
 pub mod Applied
+pub mod Costs
 pub mod Halves
 pub mod Leaves
 pub mod Operations

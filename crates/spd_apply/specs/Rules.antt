@@ -3,7 +3,7 @@ use Rattle.std.specs.Prelude.{◌≡◌, ℕ, ◌+◌, ◌<◌, ◌≤◌, true,
 use Rattle.spd_cons_core.specs.declared.key.Entry.{Entry}
 use Rattle.spd_memo.specs.Kept.{KeptAnswers}
 use Rattle.spd_nodes.specs.Levels.{levels_of, slots}
-use Rattle.spd_nodes.specs.Trees.{Tree, Ends, join, CanTest}
+use Rattle.spd_nodes.specs.Trees.{Tree, Ends, IsNode, join, CanTest}
 use Rattle.spd_nodes.specs.Shown.{Shown, IsSound, IsViewOf}
 use Rattle.spd_apply.specs.Halves.{pair_rank}
 use Rattle.spd_apply.specs.declared.rule.Node.{Node}
@@ -37,10 +37,16 @@ abbrev pub IsBelow : (Tree → Tree → Type 0) → Shown → Below → Type 0
 IsBelow may s (B.Known r) = s.knows r ≡ true
 IsBelow may s (B.Pair f g) = MayMeet may s f g
 
+-- a pair below is of nodes of two entries
+abbrev pub IsOfNodes : Shown → Entry → Entry → Below → Type 0
+IsOfNodes s f g (B.Known r) = Unit {0}
+IsOfNodes s f g (B.Pair x y) = IsNode (s.tree x) (s.tree f) × IsNode (s.tree y) (s.tree g)
+
 -- what is made is what is made below
 pub record PlansBelow (making : Making) (may : Tree → Tree → Type 0) (s : Shown) (f g : Entry) (below : Below) : Type 0 where
   pub is : making (s.tree f) (s.tree g) ≡ below_tree making s below
   pub goes : IsBelow may s below
+  pub nodes : IsOfNodes s f g below
   pub smaller : below_rank s below ≤ pair_rank (slots s.sizes) (s.tree f) (s.tree g)
 
 -- what is made is a test of what is made below, or one of these where both are equal
@@ -50,6 +56,8 @@ pub record PlansTest (making : Making) (may : Tree → Tree → Type 0) (s : Sho
   pub can_test : CanTest (slots s.sizes) level (below_tree making s yes) (below_tree making s no)
   pub yes_goes : IsBelow may s yes
   pub no_goes : IsBelow may s no
+  pub yes_nodes : IsOfNodes s f g yes
+  pub no_nodes : IsOfNodes s f g no
   pub yes_smaller : below_rank s yes ≤ pair_rank (slots s.sizes) (s.tree f) (s.tree g)
   pub no_smaller : below_rank s no ≤ pair_rank (slots s.sizes) (s.tree f) (s.tree g)
 

@@ -34,8 +34,3 @@ pub use rounding::{CeilBy, FloorBy, TimesCeil, TimesFloor};
 pub use rule::{Below, Descent, Node, OpFault, Plan, Rule};
 pub use split::{halves, lower_level, test_of_halves};
 pub use unary::{EachLeaf, map_leaves};
-
-#[cfg(test)]
-mod leaves_tests;
-#[cfg(test)]
-mod tests;

@@ -1,12 +1,13 @@
 //! The recursion that all operations share: recall, view, plan, go on below, keep.
 
-ghost use Rattle.std.specs.Prelude.{◌≡◌, ℕ, IfOk, IfErr, IfSome, OnOk, true};
-ghost use Rattle.spd_memo.specs.Kept.{answer_in, put_in};
+ghost use Rattle.std.specs.Prelude.{◌≡◌, ℕ, ◌+◌, ◌*◌, ◌≤◌, IfOk, IfErr, IfSome, OnOk, OnErr, true};
+ghost use Rattle.spd_memo.specs.Kept.{IsKept, Keeps, answer_in, promoted_in, put_in};
 ghost use Rattle.spd_nodes.specs.declared.forest.StoreFault.{StoreFault};
 ghost use Rattle.spd_nodes.specs.Levels.{slots};
 ghost use Rattle.spd_nodes.specs.Shown.{Shown, IsSound, MakesTree};
+ghost use Rattle.spd_apply.specs.Costs.{AddsLower, Counts, pair_count, unkept_of};
 ghost use Rattle.spd_apply.specs.Halves.{pair_rank};
-ghost use Rattle.spd_apply.specs.Rules.{HoldsAnswers, IsAnswer, IsReady, IsBelow, IsNodeAt, below_tree};
+ghost use Rattle.spd_apply.specs.Rules.{HoldsAnswers, IsAnswer, IsReady, IsBelow, IsNodeAt, below_rank, below_tree};
 
 use crate::rule::{Below, Descent, Node, OpFault, Plan};
 use spd_memo::Memo;
@@ -25,6 +26,8 @@ fn recall<F: Forest, D: Descent>(
 ) -> Option<Ref>
     requires { HoldsAnswers (D.making rule.now) (F.shows forest.now) memo.old }
     ensures kept { result ≡ answer_in memo.old.pairs f g }
+    ensures pairs { memo.new.pairs ≡ promoted_in memo.old.pairs f g }
+    ensures distinct { IsKept memo.new }
     ensures answer { IfSome result (λ r. IsAnswer (D.making rule.now) (F.shows forest.now) f g r) }
     ensures memo { HoldsAnswers (D.making rule.now) (F.shows forest.now) memo.new }
     ensures capacity { memo.new.capacity ≡ memo.old.capacity }
@@ -46,6 +49,8 @@ fn keep<F: Forest, D: Descent>(
     requires answer { IsAnswer (D.making rule.now) (F.shows forest.now) f g r }
     ensures same { IfOk result (λ q. q ≡ r) }
     ensures kept { OnOk result (memo.new ≡ put_in memo.old f g r) }
+    ensures unkept { OnErr result (memo.new ≡ memo.old) }
+    ensures distinct { IsKept memo.new }
     ensures memory { IfErr result (λ e. e ≡ StoreFault.Memory) }
     ensures memo { HoldsAnswers (D.making rule.now) (F.shows forest.now) memo.new }
     ensures capacity { memo.new.capacity ≡ memo.old.capacity }
@@ -90,7 +95,9 @@ fn nodes<F: Forest>(forest: &mut F, f: Ref, g: Ref) -> (Node, Node)
 
 /// Makes what a rule makes of two Refs, each pair once as long as the memo keeps it. Each call of a pair goes down at least
 /// one level, so calls nest at most three deep a level, and there are at most 512 levels.
-#[cycle(make)]
+///
+/// A memo that may keep all pairs of nodes of the two diagrams drops none of them on the way, whatever it kept before. So each is
+/// made at most once, in one step, or, where the rule goes no further, in as many as it says.
 pub fn make_pair<F: Forest, D: Descent, L: Ledger>(
     forest: &mut F,
     rule: &D,
@@ -104,6 +111,29 @@ pub fn make_pair<F: Forest, D: Descent, L: Ledger>(
     ensures keeps { F.kept forest.new ≡ F.kept forest.old }
     ensures memo { HoldsAnswers (D.making rule.now) (F.shows forest.new) memo.new }
     ensures capacity { memo.new.capacity ≡ memo.old.capacity }
+    ensures steps { pair_count ((F.shows forest.old).tree f) ((F.shows forest.old).tree g) ≤ memo.old.capacity → steps.new ≤ steps.old + (1 + D.more_steps rule.now) * pair_count ((F.shows forest.old).tree f) ((F.shows forest.old).tree g) }
+{
+    let _ = memo.len();
+    recall_or_make(forest, rule, f, g, memo, steps)
+}
+
+/// The answer that the memo keeps, or the one that is made, which it then keeps.
+#[cycle(make)]
+fn recall_or_make<F: Forest, D: Descent, L: Ledger>(
+    forest: &mut F,
+    rule: &D,
+    f: Ref,
+    g: Ref,
+    memo: &mut Memo,
+    steps: &mut Steps<L>,
+) -> Result<Ref, OpFault>
+    requires { IsReady (D.making rule.now) (D.may rule.now (F.shows forest.old).sizes) (F.shows forest.old) f g memo.old }
+    ensures made { MakesTree (F.shows forest.old) (F.shows forest.new) (D.making rule.now ((F.shows forest.old).tree f) ((F.shows forest.old).tree g)) result }
+    ensures keeps { F.kept forest.new ≡ F.kept forest.old }
+    ensures memo { HoldsAnswers (D.making rule.now) (F.shows forest.new) memo.new }
+    ensures capacity { memo.new.capacity ≡ memo.old.capacity }
+    ensures lower { AddsLower (F.shows forest.new) memo.old memo.new (below_rank (F.shows forest.old) (Below.Pair f g)) }
+    ensures counts { Counts (F.shows forest.old) (F.shows forest.new) memo.old memo.new steps.old steps.new (1 + D.more_steps rule.now) (Below.Pair f g) (unkept_of result) }
 {
     if let Some(r) = recall(forest, rule, f, g, memo) {
         return Ok(r);
@@ -124,12 +154,15 @@ fn make_anew<F: Forest, D: Descent, L: Ledger>(
     steps: &mut Steps<L>,
 ) -> Result<Ref, OpFault>
     requires ready { IsReady (D.making rule.now) (D.may rule.now (F.shows forest.old).sizes) (F.shows forest.old) f.name g.name memo.old }
+    requires absent { Keeps memo.old f.name g.name → ⊥ }
     requires left { IsNodeAt (F.shows forest.old) f }
     requires right { IsNodeAt (F.shows forest.old) g }
     ensures made { MakesTree (F.shows forest.old) (F.shows forest.new) (D.making rule.now ((F.shows forest.old).tree f.name) ((F.shows forest.old).tree g.name)) result }
     ensures keeps { F.kept forest.new ≡ F.kept forest.old }
     ensures memo { HoldsAnswers (D.making rule.now) (F.shows forest.new) memo.new }
     ensures capacity { memo.new.capacity ≡ memo.old.capacity }
+    ensures lower { AddsLower (F.shows forest.new) memo.old memo.new (pair_rank (slots (F.shows forest.old).sizes) ((F.shows forest.old).tree f.name) ((F.shows forest.old).tree g.name)) }
+    ensures counts { Counts (F.shows forest.old) (F.shows forest.new) memo.old memo.new steps.old steps.new (1 + D.more_steps rule.now) (Below.Pair f.name g.name) 1 }
 {
     match rule.plan(forest, f, g) {
         Plan::Leaf(leaf) => forest.leaf(leaf, steps),
@@ -159,10 +192,12 @@ fn make_below<F: Forest, D: Descent, L: Ledger>(
     ensures keeps { F.kept forest.new ≡ F.kept forest.old }
     ensures memo { HoldsAnswers (D.making rule.now) (F.shows forest.new) memo.new }
     ensures capacity { memo.new.capacity ≡ memo.old.capacity }
+    ensures lower { AddsLower (F.shows forest.new) memo.old memo.new (below_rank (F.shows forest.old) below) }
+    ensures counts { Counts (F.shows forest.old) (F.shows forest.new) memo.old memo.new steps.old steps.new (1 + D.more_steps rule.now) below (unkept_of result) }
 {
     match below {
         Below::Known(r) => Ok(r),
-        Below::Pair(f, g) => make_pair(forest, rule, f, g, memo, steps),
+        Below::Pair(f, g) => recall_or_make(forest, rule, f, g, memo, steps),
     }
 }
 

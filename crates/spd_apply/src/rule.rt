@@ -1,6 +1,6 @@
 //! How an operation on diagrams goes down from the roots of two of them.
 
-ghost use Rattle.std.specs.Prelude.{◌≡◌, ℕ, List, true};
+ghost use Rattle.std.specs.Prelude.{◌≡◌, ℕ, ◌+◌, ◌≤◌, List, true};
 ghost use Rattle.spd_nodes.specs.Trees.{Tree};
 ghost use Rattle.spd_nodes.specs.Shown.{Shown, IsSound, MakesTree};
 ghost use Rattle.spd_apply.specs.Rules.{IsNodeAt, IsPlan};
@@ -69,6 +69,9 @@ pub trait Descent {
     /// Of which trees it goes no further.
     ghost ends: { Self → List ℕ → Tree → Tree → Type 0 };
 
+    /// How many find-or-make calls more than one it takes at most where it goes no further.
+    ghost more_steps: { Self → ℕ };
+
     /// How it goes on from two diagrams.
     fn plan<F: Forest>(&self, forest: &F, f: Node, g: Node) -> Plan
         requires sound { IsSound (F.shows forest.now) }
@@ -91,7 +94,8 @@ pub trait Descent {
         requires may { may self.now (F.shows forest.old).sizes ((F.shows forest.old).tree f.name) ((F.shows forest.old).tree g.name) }
         requires ends { ends self.now (F.shows forest.old).sizes ((F.shows forest.old).tree f.name) ((F.shows forest.old).tree g.name) }
         ensures made { MakesTree (F.shows forest.old) (F.shows forest.new) (making self.now ((F.shows forest.old).tree f.name) ((F.shows forest.old).tree g.name)) result }
-        ensures keeps { F.kept forest.new ≡ F.kept forest.old };
+        ensures keeps { F.kept forest.new ≡ F.kept forest.old }
+        ensures cost { steps.new ≤ steps.old + (1 + more_steps self.now) };
 }
 
 /// A rule needs no bottom of its own. One that is asked for where what it makes is the first diagram answers that.
@@ -101,6 +105,8 @@ impl<R: Rule> Descent for R {
     ghost may = { λ r sizes t u. R.may r sizes t u };
 
     ghost ends = { λ r _ t u. R.making r t u ≡ t };
+
+    ghost more_steps = { λ _. 0 };
 
     fn plan<F: Forest>(&self, forest: &F, f: Node, g: Node) -> Plan {
         Rule::plan(self, forest, f, g)

@@ -21,7 +21,7 @@ pub struct EachLeaf<'a, M> {
 impl<'a, M: LeafMap> Rule for EachLeaf<'a, M> {
     ghost making = { λ r t u. mapped (M.of r.map.now) t };
 
-    ghost may = { λ r sizes t u. EachFits (M.fits r.map.now) t };
+    ghost may = { λ r sizes t u. EachFits (M.fits r.map.now) t × (t ≡ u) };
 
     fn plan<F: Forest>(&self, _forest: &F, f: Node, _g: Node) -> Plan {
         match f.root {

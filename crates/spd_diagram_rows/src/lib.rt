@@ -14,6 +14,8 @@ mod guarded;
 #[cfg(test)]
 mod indicators;
 #[cfg(test)]
+mod leaf_order;
+#[cfg(test)]
 mod maps;
 #[cfg(test)]
 mod reading;

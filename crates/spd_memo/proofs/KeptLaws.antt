@@ -8,7 +8,7 @@ use Rattle.lru.specs.LruCache.{lru_cache}
 use Rattle.lru.proofs.CallerLemmas.{Contains-lookup, Contains-promoted, Contains-put_entries, IsPut}
 use Rattle.spd_memo.specs.Kept.{KeptAnswers, is_same_pair, answer_in, promoted_in, pairs_put}
 
-is_same_pair-true : (f g : Entry) (q : Entry × Entry) → is_same_pair f g q ≡ true → q ≡ (f, g)
+pub is_same_pair-true : (f g : Entry) (q : Entry × Entry) → is_same_pair f g q ≡ true → q ≡ (f, g)
 is_same_pair-true f g q e =
     let s : (f.0 == q.0.0 ≡ true) × (g.0 == q.1.0 ≡ true) = and_parts _ _ e in
     let a : q.0.0 ≡ f.0 = sym ((Decides-eqb f.0 q.0.0).0 s.0) in

@@ -1,6 +1,7 @@
 -- What a memo keeps.
-use Rattle.std.specs.Prelude.{ℕ, ◌==◌, ◌&&◌, Bool, List, ◌∷◌, Option, take, ◌-◌}
-use Rattle.std.specs.Map.{lookup, lookup_entry, remove_entry}
+use Rattle.std.specs.Prelude.{ℕ, ◌≤◌, ◌==◌, ◌&&◌, Bool, List, ◌∷◌, Option, Contains, length, take, ◌-◌}
+use Rattle.std.specs.List.{IsDistinct}
+use Rattle.std.specs.Map.{keys_of, lookup, lookup_entry, remove_entry}
 use Rattle.std.specs.Option.{option_map_or}
 use Rattle.spd_cons_core.specs.declared.key.Entry.{Entry}
 use Rattle.lru.specs.LruCache.{promoted}
@@ -29,3 +30,12 @@ pairs_put k f g r = option_map_or (λ e. (e.0, r) ∷ remove_entry (is_same_pair
 -- the memo after an answer was put
 abbrev pub put_in : KeptAnswers → Entry → Entry → Entry → KeptAnswers
 put_in k f g r = record { pairs = pairs_put k f g r; capacity = k.capacity }
+
+-- no pair is kept twice, and no more than the capacity
+pub record IsKept (k : KeptAnswers) : Type 0 where
+  pub once : IsDistinct (λ (p q : Entry × Entry). is_same_pair p.0 p.1 q) (keys_of k.pairs)
+  pub few : length k.pairs ≤ k.capacity
+
+-- a pair is kept, with some answer
+abbrev pub Keeps : KeptAnswers → Entry → Entry → Type 0
+Keeps k f g = (r : Entry) × Contains k.pairs ((f, g), r)

@@ -4,8 +4,8 @@
 //! Its contracts say exactly which pairs stand in which order after a `get` and a `put`. It takes memory as it fills.
 #![tactic(auto)]
 
-ghost use Rattle.std.specs.Prelude.{◌≡◌, ℕ, ◌<◌, [], IfOk, OnOk, OnErr};
-ghost use Rattle.spd_memo.specs.Kept.{KeptAnswers, answer_in, promoted_in, put_in};
+ghost use Rattle.std.specs.Prelude.{◌≡◌, ℕ, ◌<◌, [], length, IfOk, OnOk, OnErr};
+ghost use Rattle.spd_memo.specs.Kept.{KeptAnswers, IsKept, answer_in, promoted_in, put_in};
 
 use lru::LruCache;
 use spd_cons_core::Entry;
@@ -47,8 +47,11 @@ impl Memo {
         ensures answer { result ≡ answer_in self.old.pairs f g }
         ensures kept { self.new.pairs ≡ promoted_in self.old.pairs f g }
         ensures capacity { self.new.capacity ≡ self.old.capacity }
+        ensures distinct { IsKept self.new }
     {
-        self.cache.get(&(f, g)).copied()
+        let answer = self.cache.get(&(f, g)).copied();
+        let _ = self.len();
+        answer
     }
 
     /// Keeps an answer for a pair, as the newest one. A pair that wasn't kept drops the oldest of `capacity` pairs. Where
@@ -56,9 +59,20 @@ impl Memo {
     pub fn put(&mut self, f: Entry, g: Entry, r: Entry) -> Result<(), AllocError>
         ensures ok { OnOk result (self.new ≡ put_in self.old f g r) }
         ensures err { OnErr result (self.new ≡ self.old) }
+        ensures distinct { IsKept self.new }
     {
+        let _ = self.len();
         self.cache.put((f, g), r)?;
+        let _ = self.len();
         Ok(())
+    }
+
+    /// How many pairs are kept.
+    pub fn len(&self) -> usize
+        ensures len { result ≡ length self.now.pairs }
+        ensures distinct { IsKept self.now }
+    {
+        self.cache.len()
     }
 }
 

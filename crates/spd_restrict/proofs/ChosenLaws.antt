@@ -67,6 +67,7 @@ module _ (first value : ℕ) (s : Shown) (o : IsSound s) (f g : Entry) (kf : s.k
       record {
         is = subst (λ (h : Entry). replaced first value (s.tree f) (s.tree h) ≡ s.tree f) same (replaced-itself ds may.slot first may.end may.is_slot value may.value_in (s.tree f) (o.reduced f kf) may.left);
         goes = kf;
+        nodes = tt;
         smaller = omega arith;
       }
 

@@ -1,10 +1,10 @@
 -- How a cofactor goes on from an entry, and what it makes of a whole one.
-use Rattle.std.proofs.Common.{◌≡◌, ℕ, zero, suc, ◌+◌, ◌*◌, ◌<◌, ◌≤◌, ◌≢◌, inl, inr, ◌==◌, Bool, true, false, List, [], ◌∷◌, length, set, refl, ◌∙◌, ap, subst, arith}
+use Rattle.std.proofs.Common.{◌≡◌, ℕ, zero, suc, ◌+◌, ◌*◌, ◌<◌, ◌≤◌, ◌≢◌, inl, inr, ◌==◌, Bool, true, false, List, [], ◌∷◌, length, set, refl, sym, ◌∙◌, ap, subst, arith}
 use Rattle.std.specs.Prelude.{nat_lt}
 use Rattle.std.proofs.lemmas.Bool.Decides.{nat_tests}
 use Rattle.spd_cons_core.specs.declared.key.Entry.{Entry}
 use Rattle.spd_nodes.specs.Levels.{slots, slot_of, IsSlot}
-use Rattle.spd_nodes.specs.Trees.{Tree, Tests, value_at, IsReduced}
+use Rattle.spd_nodes.specs.Trees.{Tree, Tests, Itself, InYes, InNo, value_at, IsReduced}
 use Rattle.spd_model.specs.States.{IsState}
 use Rattle.spd_nodes.specs.States.{point}
 use Rattle.spd_nodes.specs.Shown.{Shown, IsSound, IsWhole, meaning}
@@ -14,7 +14,8 @@ use Rattle.spd_restrict.specs.Restricted.{restricted, cofactored, IsUpTo, MayRes
 use Rattle.spd_nodes.proofs.CallerLemmas.{IsTreeFor, Parts, parts, IsState-point, rank-view}
 use Rattle.spd_restrict.proofs.CofactorLaws.{Good, good-cofactored, can-cofactor, value_at-cofactored, up-to-from, up-to-at}
 
-module _ (first end value : ℕ) (s : Shown) (o : IsSound s) (f g : Entry) (kf : s.knows f ≡ true) (may : MayRestrict first end value s.sizes (s.tree f)) where
+module _ (first end value : ℕ) (s : Shown) (o : IsSound s) (f g : Entry) (kf : s.knows f ≡ true) (may : MayRestrict first end value s.sizes (s.tree f))
+    (twice : s.tree f ≡ s.tree g) where
   abbrev ds : List ℕ
   ds = slots s.sizes
 
@@ -22,7 +23,7 @@ module _ (first end value : ℕ) (s : Shown) (o : IsSound s) (f g : Entry) (kf :
   making t u = cofactored first end value t
 
   abbrev may-meet : Tree → Tree → Type 0
-  may-meet t u = MayRestrict first end value s.sizes t
+  may-meet t u = MayRestrict first end value s.sizes t × (t ≡ u)
 
   module _ (l : ℕ) (y n : Entry) (e : s.tree f ≡ Tests l (s.tree y) (s.tree n)) (ky : s.knows y ≡ true) (kn : s.knows n ≡ true) where
     reduced : IsReduced ds 0 (Tests l (s.tree y) (s.tree n))
@@ -41,7 +42,7 @@ module _ (first end value : ℕ) (s : Shown) (o : IsSound s) (f g : Entry) (kf :
     up-no h = elim q.no_fits [ inl k ↦ up-to-from ds may.slot first end value _ (s.tree n) may.is_slot k | inr k ↦ up-to-at first end value (l + 1) (s.tree n) k.0 h ]
 
     go-on : (r : Entry) → s.knows r ≡ true → IsUpTo first end value (s.tree r) → MayMeet may-meet s r r
-    go-on r k u = record { left = k; right = k; trees = record { slot = may.slot; is_slot = may.is_slot; value_in = may.value_in; up_to = u } }
+    go-on r k u = record { left = k; right = k; trees = (record { slot = may.slot; is_slot = may.is_slot; value_in = may.value_in; up_to = u }, refl) }
 
     pub plans-before : l < first → PlansTest making may-meet s f g l (B.Pair y y) (B.Pair n n)
     plans-before h =
@@ -56,6 +57,8 @@ module _ (first end value : ℕ) (s : Shown) (o : IsSound s) (f g : Entry) (kf :
               (good-cofactored ds may.slot first end may.is_slot value (s.tree n) q.no_reduced un);
           yes_goes = go-on y ky up-yes;
           no_goes = go-on n kn un;
+          yes_nodes = rw (sym twice, e) (InYes Itself, InYes Itself);
+          no_nodes = rw (sym twice, e) (InNo Itself, InNo Itself);
           yes_smaller = omega (arith, smaller.0);
           no_smaller = omega (arith, smaller.1);
         }
@@ -67,7 +70,7 @@ module _ (first end value : ℕ) (s : Shown) (o : IsSound s) (f g : Entry) (kf :
         let v : (l == first + value) ≡ false = grind (arith, nat_tests) in
         let w : l ≤ first + value = up lo hi in
         let smaller = rank-view s o f y n l kf e in
-        record { is = rw (e, t, u, v) refl; goes = go-on n kn (up-no (λ j k. omega arith)); smaller = omega (arith, smaller.1) }
+        record { is = rw (e, t, u, v) refl; goes = go-on n kn (up-no (λ j k. omega arith)); nodes = rw (sym twice, e) (InNo Itself, InNo Itself); smaller = omega (arith, smaller.1) }
 
 -- writes to a point are writes to its states
 pub set-primed : (sizes s t : List ℕ) (var v : ℕ) → IsState sizes s → IsState sizes t → var < length sizes → set (point s t) (2 * var + 0) v ≡ point s (set t var v)

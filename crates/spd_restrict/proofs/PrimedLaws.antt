@@ -4,7 +4,7 @@ use Rattle.std.specs.Prelude.{nat_lt}
 use Rattle.std.proofs.lemmas.Bool.Decides.{nat_tests}
 use Rattle.spd_cons_core.specs.declared.key.Entry.{Entry}
 use Rattle.spd_nodes.specs.Levels.{levels_of, passes, after, is_first, slots, level_at, IsTestOf}
-use Rattle.spd_nodes.specs.Trees.{Tree, Ends, Tests, value_at, IsFrom, IsAt, IsReduced, CanTest, join, IsAtOrPast}
+use Rattle.spd_nodes.specs.Trees.{Tree, Ends, Tests, Itself, InYes, InNo, value_at, IsFrom, IsAt, IsReduced, CanTest, join, IsAtOrPast}
 use Rattle.spd_model.specs.States.{IsState}
 use Rattle.spd_nodes.specs.States.{point}
 use Rattle.spd_nodes.specs.Shown.{Shown, IsSound, IsWhole, meaning}
@@ -243,7 +243,7 @@ module _ (own : List ℕ) (s : Shown) (o : IsSound s) (f g : Entry) (kf : s.know
   making t u = primed_tree own t
 
   abbrev may-meet : Tree → Tree → Type 0
-  may-meet t u = MayPrime own s.sizes t
+  may-meet t u = MayPrime own s.sizes t × (t ≡ u)
 
   pub primed-at : (l m var v : ℕ) (b : Bool) (y n : Entry) → s.tree f ≡ Tests l (s.tree y) (s.tree n) → IsTestOf own l var b v → m ≡ level_at own var true v → m ≡ primed_level s.sizes l
   primed-at l m var v b y n e t at =
@@ -251,9 +251,9 @@ module _ (own : List ℕ) (s : Shown) (o : IsSound s) (f g : Entry) (kf : s.know
       let h : is_plain_level own l ≡ true = subst (λ (z : List ℕ). is_plain_level z l ≡ true) (sym may.same) p.0 in
       at ∙ plain-test own l var v b h t ∙ ap (λ (z : List ℕ). primed_level z l) may.same
 
-  pub primes-test : (l m : ℕ) (y n : Entry) → s.tree f ≡ Tests l (s.tree y) (s.tree n) → s.knows y ≡ true → s.knows n ≡ true → m ≡ primed_level s.sizes l
+  pub primes-test : (l m : ℕ) (y n : Entry) → s.tree f ≡ s.tree g → s.tree f ≡ Tests l (s.tree y) (s.tree n) → s.knows y ≡ true → s.knows n ≡ true → m ≡ primed_level s.sizes l
       → PlansTest making may-meet s f g m (B.Pair y y) (B.Pair n n)
-  primes-test l m y n e ky kn at =
+  primes-test l m y n twice e ky kn at =
       let r : IsReduced (slots s.sizes) 0 (Tests l (s.tree y) (s.tree n)) = subst (λ t. IsReduced (slots s.sizes) 0 t) e (o.reduced f kf) in
       let p : TestsNoPrimed s.sizes (Tests l (s.tree y) (s.tree n)) = subst (λ t. TestsNoPrimed s.sizes t) e may.plain in
       let q : Parts (slots s.sizes) l (s.tree y) (s.tree n) = parts (slots s.sizes) l (s.tree y) (s.tree n) r in
@@ -264,8 +264,10 @@ module _ (own : List ℕ) (s : Shown) (o : IsSound s) (f g : Entry) (kf : s.know
         level_in = subst (λ v. v < levels_of (slots s.sizes)) (sym at) (level-primed-in s.sizes l p.0 q.level);
         is = ap (primed_tree own) e ∙ ap (λ v. join v (primed_tree own (s.tree y)) (primed_tree own (s.tree n))) (ap (λ (z : List ℕ). primed_level z l) may.same ∙ sym at);
         can_test = subst (λ (z : List ℕ). CanTest (slots s.sizes) m (primed_tree z (s.tree y)) (primed_tree z (s.tree n))) (sym may.same) (subst (λ v. CanTest (slots s.sizes) v (primed_tree s.sizes (s.tree y)) (primed_tree s.sizes (s.tree n))) (sym at) can);
-        yes_goes = record { left = ky; right = ky; trees = record { same = may.same; plain = p.1 } };
-        no_goes = record { left = kn; right = kn; trees = record { same = may.same; plain = p.2 } };
+        yes_goes = record { left = ky; right = ky; trees = (record { same = may.same; plain = p.1 }, refl) };
+        no_goes = record { left = kn; right = kn; trees = (record { same = may.same; plain = p.2 }, refl) };
+        yes_nodes = rw (sym twice, e) (InYes Itself, InYes Itself);
+        no_nodes = rw (sym twice, e) (InNo Itself, InNo Itself);
         yes_smaller = omega (arith, smaller.0);
         no_smaller = omega (arith, smaller.1);
       }

@@ -56,6 +56,7 @@ fn replace_after<F: Forest, L: Ledger>(
     requires can { CanReplace before level.0 (F.shows forest.old).sizes ((F.shows forest.old).tree f.name) ((F.shows forest.old).tree g.name) }
     ensures made { MakesTree (F.shows forest.old) (F.shows forest.new) (replaced_after before level.0 ((F.shows forest.old).tree f.name) ((F.shows forest.old).tree g.name)) result }
     ensures keeps { F.kept forest.new ≡ F.kept forest.old }
+    ensures cost { steps.new ≤ steps.old + (1 + before) }
 {
     let (f_yes, _) = halves(f, level);
     let (g_yes, g_no) = halves(g, level);
@@ -81,6 +82,8 @@ impl Descent for AtOneValue {
     ghost may = { λ r sizes t u. MayReplace r.first r.value sizes t u };
 
     ghost ends = { λ r sizes t u. MeetAt r.first t u };
+
+    ghost more_steps = { λ r. r.value };
 
     fn plan<F: Forest>(&self, _forest: &F, f: Node, g: Node) -> Plan {
         if f.name == g.name {

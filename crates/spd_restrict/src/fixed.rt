@@ -21,7 +21,7 @@ struct AtValue {
 impl Rule for AtValue {
     ghost making = { λ r t u. cofactored r.first r.end r.value t };
 
-    ghost may = { λ r sizes t u. MayRestrict r.first r.end r.value sizes t };
+    ghost may = { λ r sizes t u. MayRestrict r.first r.end r.value sizes t × (t ≡ u) };
 
     fn plan<F: Forest>(&self, _forest: &F, f: Node, _g: Node) -> Plan {
         match f.root {

@@ -14,6 +14,3 @@ pub use branch::choose;
 pub use fixed::cofactor;
 pub use next::prime;
 pub use plain::is_plain;
-
-#[cfg(test)]
-mod tests;

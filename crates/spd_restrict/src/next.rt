@@ -18,7 +18,7 @@ struct Priming {
 impl Rule for Priming {
     ghost making = { λ r t u. primed_tree r.layout t };
 
-    ghost may = { λ r sizes t u. MayPrime r.layout sizes t };
+    ghost may = { λ r sizes t u. MayPrime r.layout sizes t × (t ≡ u) };
 
     fn plan<F: Forest>(&self, _forest: &F, f: Node, _g: Node) -> Plan {
         match f.root {

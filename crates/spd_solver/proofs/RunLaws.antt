@@ -1,5 +1,7 @@
 -- What the stages of a command come to, for the command as a whole.
-use Rattle.std.proofs.Common.{◌≡◌, ◌↔◌, ℕ, ◌<◌, ◌≤◌, List, length, ℤ, Option, Some, None, IfSome, Result, refl, sym, ap, subst, ◌∙◌}
+use Rattle.std.proofs.Common.{◌≡◌, ◌↔◌, ℕ, ◌+◌, ◌<◌, ◌≤◌, List, length, ℤ, Option, Some, None, IfSome, Result, refl, sym, ap, subst, ◌∙◌, arith}
+use Rattle.std.specs.Prelude.{replicate}
+use Rattle.std.proofs.lemmas.List.{length-replicate}
 use Rattle.std.proofs.lemmas.Option.{same_Some, none-some}
 use Rattle.sha2.specs.Sha256.{sha256}
 use Rattle.spd_edge.specs.Told.{Took, TookFront}
@@ -27,10 +29,14 @@ use Rattle.spd_solver.specs.Solve.{residual, file_limit, IsFileOf, TellsStop, Re
 use Rattle.spd_solver.specs.inner.Stages.{IsSolution, IsUnsolved, FailsToRead, Asks, AskWrongly, Answers, ending, finished_status, unreadable_status, unread_status, unsolved_status}
 use Rattle.spd_solver.proofs.Causes.{file_once, file_right}
 
--- what is said of the bytes that were read is said of those that the place holds
-held_of : (o : Option (List ℕ)) (bytes : List ℕ) (P : List ℕ → Type 0) → IfSome o (λ held. bytes ≡ held) → P bytes → IfSome o P
-held_of None bytes P same p = tt
-held_of (Some held) bytes P same p = subst P same p
+-- there are bytes longer than this
+some_longer : (n : ℕ) → (bytes : List ℕ) × (n < length bytes)
+some_longer n = (replicate (n + 1) 0, rw (length-replicate) (omega arith))
+
+-- bytes that are longer than this, and those that the place holds, where it tells them
+long_bytes : (n : ℕ) (o : Option (List ℕ)) → IfSome o (λ bytes. n < length bytes) → (bytes : List ℕ) × IfSome o (λ held. bytes ≡ held) × (n < length bytes)
+long_bytes n None long = let b = some_longer n in (b.0, tt, b.1)
+long_bytes n (Some held) long = (held, refl, long)
 
 -- what is said of the bytes that the place holds, where it tells them
 told_of : (o : Option (List ℕ)) (bytes : List ℕ) (P : List ℕ → Type 0) → IfSome o P → o ≡ Some bytes → P bytes
@@ -51,21 +57,26 @@ finished_whole Why.Limit r = refl
 pub record WasRead (file bytes : List ℕ) (before now : Seen) : Type 0 where
   pub held : IfSome (before.inputs.holds file) (λ held. bytes ≡ held)
   pub short : length bytes ≤ file_limit
-  pub calm : ReadsCalmly before now
+  pub closed : now.inputs.stage file ≡ Some Stage.Closed
+  pub calm : now.inputs.faults ≡ before.inputs.faults
 
 pub was_read : (file items bytes : List ℕ) (before now : Seen) → bytes ≡ items → IfSome (before.inputs.holds file) (λ held. items ≡ held)
-    → length items ≤ file_limit → ReadsCalmly before now → WasRead file bytes before now
-was_read file items bytes before now same held short calm =
-    subst (λ (b : List ℕ). WasRead file b before now) (sym same) (record { held = held; short = short; calm = calm })
+    → length items ≤ file_limit → now.inputs.stage file ≡ Some Stage.Closed → now.inputs.faults ≡ before.inputs.faults → WasRead file bytes before now
+was_read file items bytes before now same held short closed calm =
+    subst (λ (b : List ℕ). WasRead file b before now) (sym same) (record { held = held; short = short; closed = closed; calm = calm })
 
 module _ (way : Way) (file : List ℕ) (options : Options) (before now : Seen) where
+  reads_calmly : now.inputs.stage file ≡ Some Stage.Closed → now.inputs.faults ≡ before.inputs.faults → ReadsCalmly (solving way file options) before now
+  reads_calmly closed calm = (λ name is. ap now.inputs.stage is ∙ closed, calm)
+
   -- ---- what is refused
 
   -- a refusal that has its cause
-  refused_answers : (s : Status) → kind_of s ≡ refusal → Refuses (solving way file options) before.inputs.holds s → IsUnwritten before now → ReadsCalmly before now
+  refused_answers : (s : Status) → kind_of s ≡ refusal → Refuses (solving way file options) before.inputs.holds s → IsUnwritten before now → ReadsCalmly (solving way file options) before now
       → Answers (solving way file options) s before now
   refused_answers s kind cause unwritten calm =
-      let told = λ (bytes : List ℕ) (is : before.inputs.holds file ≡ Some bytes). told_of (before.inputs.holds file) bytes (λ (b : List ℕ). RefusesFile file b s) cause is in
+      let told = λ (bytes : List ℕ) (is : before.inputs.holds file ≡ Some bytes).
+      subst (λ (b : List ℕ). RefusesFile file b s) (told_of (before.inputs.holds file) bytes (λ (b : List ℕ). cause.0 ≡ b) cause.1 is) cause.2 in
       record {
         means = subst (λ (k : Kind). Means k (solving way file options) s before now) (sym kind) (cause, unwritten, calm);
         completes = subst (λ (k : Kind). Completes k (solving way file options) before.inputs.holds) (sym kind)
@@ -86,19 +97,15 @@ module _ (way : Way) (file : List ℕ) (options : Options) (before now : Seen) w
       let P = λ (n : List ℕ). (n ≡ file) × Rose (before.inputs.faults n) (now.inputs.faults n) × (now.inputs.stage n ≡ Some Stage.Closed) in
       record { means = (subst P (sym cause.0) (refl, cause.1, cause.2), unwritten); completes = tt; tells = tt }
   unreadable_answers (Unreadable.TooLong name) cause unwritten =
-      refused_answers (S.TooLong name) refl
-      (too_long (before.inputs.holds file) cause.0 cause.2) unwritten cause.1
-      where
-        too_long : (o : Option (List ℕ)) → name ≡ file → IfSome o (λ bytes. file_limit < length bytes) → IfSome o (λ bytes. RefusesFile file bytes (S.TooLong name))
-        too_long None named long = tt
-        too_long (Some bytes) named long = (named, long)
+      let long = long_bytes file_limit (before.inputs.holds file) cause.2 in
+      refused_answers (S.TooLong name) refl (long.0, long.1, (cause.0, long.2)) unwritten (reads_calmly cause.3 cause.1)
   unreadable_answers Unreadable.Memory cause unwritten = memory_answers unwritten
 
   module _ (bytes : List ℕ) (read : WasRead file bytes before now) where
     -- the file that was read is refused
     read_refused : (s : Status) → kind_of s ≡ refusal → RefusesFile file bytes s → IsUnwritten before now → Answers (solving way file options) s before now
     read_refused s kind cause unwritten =
-        refused_answers s kind (held_of (before.inputs.holds file) bytes (λ (b : List ℕ). RefusesFile file b s) read.held cause) unwritten read.calm
+        refused_answers s kind (bytes, read.held, cause) unwritten (reads_calmly read.closed read.calm)
 
     pub unread_answers : (why : Unread) → TellsFault bytes why → IsUnwritten before now → Answers (solving way file options) (unread_status why) before now
     unread_answers (Unread.Refused fault) cause unwritten = read_refused (S.Refused fault) refl (read.short, cause) unwritten
@@ -118,14 +125,18 @@ module _ (way : Way) (file : List ℕ) (options : Options) (before now : Seen) w
 
       module _ (digest : List ℕ) (named : digest ≡ sha256 bytes) (x : Solution) (h : IsSolution m options x) where
         ended : Ends (solving way file options) before.inputs.holds (finished_status x) (text_of digest m x.why (told x.iterate))
-        ended = held_of (before.inputs.holds file) bytes _ read.held (record {
-          process = m;
-          file = file_is;
-          valid = h.valid;
-          stop = tells_stop m options x.why x.iterate.residual.r h.why (ap (λ (i : Iterate). i.residual) h.iterate);
-          written = (λ i. text_of (named i) m (h.why i) (h.iterate i));
-          near_optimal = h.near_optimal;
-        })
+        ended = (
+          bytes,
+          read.held,
+          record {
+            process = m;
+            file = file_is;
+            valid = h.valid;
+            stop = tells_stop m options x.why x.iterate.residual.r h.why (ap (λ (i : Iterate). i.residual) h.iterate);
+            written = (λ i. text_of (named i) m (h.why i) (h.iterate i));
+            near_optimal = h.near_optimal;
+          },
+        )
 
         -- a file that was solved isn't refused
         not_refused : (s : Status) → HoldsRefused (solving way file options) before.inputs.holds s → ⊥
@@ -136,7 +147,7 @@ module _ (way : Way) (file : List ℕ) (options : Options) (before now : Seen) w
         pub cut_answers : TookFront before.taken (text_of digest m x.why (told x.iterate)) now.taken → Rose before.faults now.faults
             → Answers (solving way file options) S.WriteFault before now
         cut_answers front rose = record {
-          means = (text_of digest m x.why (told x.iterate), finished_status x, ended, front, rose, read.calm);
+          means = (text_of digest m x.why (told x.iterate), finished_status x, ended, front, rose, reads_calmly read.closed read.calm);
           completes = tt;
           tells = λ s refused. absurd (not_refused s refused);
         }
@@ -147,7 +158,7 @@ module _ (way : Way) (file : List ℕ) (options : Options) (before now : Seen) w
             let kind = sym (finished_whole x.why x.iterate.residual.r) in
             record {
               means = subst (λ (k : Kind). Means k (solving way file options) (finished_status x) before now) kind
-                  (text_of digest m x.why (told x.iterate), ended, took, same, read.calm);
+                  (text_of digest m x.why (told x.iterate), ended, took, same, reads_calmly read.closed read.calm);
               completes = subst (λ (k : Kind). Completes k (solving way file options) before.inputs.holds) kind tt;
               tells = subst (λ (k : Kind). TellsRefusal k (solving way file options) before.inputs.holds (finished_status x)) kind
                   (λ s refused. absurd (not_refused s refused));

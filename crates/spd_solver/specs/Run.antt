@@ -22,13 +22,18 @@ Held = List ℕ → Option (List ℕ)
 abbrev pub Reads : Command → List ℕ → Type 0
 Reads (solving way file options) name = name ≡ file
 
+-- Bytes that were read from the file of this name: those that the place holds, where it tells them. Where it doesn't, as the system's
+-- files don't, they are some bytes.
+abbrev pub AreOf : Held → List ℕ → List ℕ → Type 0
+AreOf held file bytes = IfSome (held file) (λ told. bytes ≡ told)
+
 -- A finished job, by its status and its text.
 abbrev pub Ends : Command → Held → Status → List ℕ → Type 0
-Ends (solving way file options) held status text = IfSome (held file) (λ bytes. IsSolved bytes options status text)
+Ends (solving way file options) held status text = (bytes : List ℕ) × AreOf held file bytes × IsSolved bytes options status text
 
 -- Why a command's files are refused.
 abbrev pub Refuses : Command → Held → Status → Type 0
-Refuses (solving way file options) held status = IfSome (held file) (λ bytes. RefusesFile file bytes status)
+Refuses (solving way file options) held status = (bytes : List ℕ) × AreOf held file bytes × RefusesFile file bytes status
 
 -- The place tells files of a command that are refused.
 abbrev pub HoldsRefused : Command → Held → Status → Type 0
@@ -51,9 +56,10 @@ pub record Seen : Type 0 where
 abbrev pub seen : {P K : Type 0} → (P → Direction) → (K → Option (List ℕ)) → (K → ℕ) → P → K → Seen
 seen inputs taken faults place out = record { inputs = inputs place; taken = taken out; faults = faults out }
 
--- no count of a name's faults changed
-abbrev pub ReadsCalmly : Seen → Seen → Type 0
-ReadsCalmly before now = now.inputs.faults ≡ before.inputs.faults
+-- each file that the command reads was opened, and closed again, and no count of a name's faults changed
+abbrev pub ReadsCalmly : Command → Seen → Seen → Type 0
+ReadsCalmly command before now =
+    ((name : List ℕ) → Reads command name → now.inputs.stage name ≡ Some Stage.Closed) × (now.inputs.faults ≡ before.inputs.faults)
 
 -- the output wasn't written to
 abbrev pub IsUnwritten : Seen → Seen → Type 0
@@ -68,16 +74,17 @@ FailsToRead command (ReadFault name) before now =
     Reads command name × Rose (before.inputs.faults name) (now.inputs.faults name) × (now.inputs.stage name ≡ Some Stage.Closed)
 FailsToRead command _ before now = ⊥
 
--- What an end of each kind means for a command. Whole: the output took the text of the finished job, and nothing else. Cut: a write
--- failed, and the output took a front of that text. Otherwise nothing was written, and what is refused has its cause in the files.
+-- What an end of each kind means for a command. Whole: its files were read, and the output took the text of the finished job, and
+-- nothing else. Cut: its files were read, a write failed, and the output took a front of that text. Otherwise nothing was written, and
+-- what is refused was read and has its cause in the files.
 abbrev pub Means : Kind → Command → Status → Seen → Seen → Type 0
 Means whole command status before now =
     (text : List ℕ) × Ends command before.inputs.holds status text × Took before.taken text now.taken × (now.faults ≡ before.faults)
-    × ReadsCalmly before now
+    × ReadsCalmly command before now
 Means cut command status before now =
     (text : List ℕ) × (finished : Status) × Ends command before.inputs.holds finished text × TookFront before.taken text now.taken
-    × Rose before.faults now.faults × ReadsCalmly before now
-Means refusal command status before now = Refuses command before.inputs.holds status × IsUnwritten before now × ReadsCalmly before now
+    × Rose before.faults now.faults × ReadsCalmly command before now
+Means refusal command status before now = Refuses command before.inputs.holds status × IsUnwritten before now × ReadsCalmly command before now
 Means outside command status before now = FailsToRead command status before now × IsUnwritten before now
 Means memory command status before now = IsUnwritten before now
 Means usage command status before now = ⊥

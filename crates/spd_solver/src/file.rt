@@ -45,6 +45,7 @@ pub(crate) fn read_file<P: Place>(
 
     ensures held { IfOk result (λ bytes. IfSome ((P.inputs place.old).holds name.now) (λ held. bytes.items ≡ held)) }
     ensures within { IfOk result (λ bytes. length bytes.items ≤ limit) }
+    ensures read { OnOk result ((P.inputs place.new).stage name.now ≡ Some Stage.Closed) }
     ensures calm { OnOk result ((P.inputs place.new).faults ≡ (P.inputs place.old).faults) }
     ensures cause { IfErr result (FailsToRead (P.inputs place.old) (P.inputs place.new) name.now limit) }
 

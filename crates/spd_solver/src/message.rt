@@ -41,7 +41,14 @@ fn write_refusal<K: Sink>(k: &mut K, refusal: Refusal) -> Result<(), Failed>
     let (words, name) = words_of(refusal);
     write_pieces(
         k,
-        &[b"refused at byte ", place.as_bytes(), b": ", words, name, b"\n"],
+        &[
+            b"refused at byte ",
+            place.as_bytes(),
+            b": ",
+            words,
+            name,
+            b"\n",
+        ],
     )
 }
 

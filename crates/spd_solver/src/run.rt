@@ -88,16 +88,19 @@ fn solve<P: Place, K: Sink>(
 /// - `headline`: a command that ends with a whole text (`Done`, `TurnLimit`) wrote exactly the text that the definitions give of its file
 ///   and options, which is that of a valid process, and nothing else; and the value and policy in it are optimal up to the residual over
 ///   one minus the discount, for every state, course of action and number of steps.
-/// - `means`: what each other kind of end says: a text that was cut off is a front of that text, and the output's count of faults rose; what
-///   is refused has its cause in the file, at the first fault; a file that couldn't be opened or read has its count of faults risen, and
-///   wasn't opened, or was; and with none of these anything was written.
+/// - `means`: what each kind of end says: where a text was written, whole or in part, and where the file is refused, the file was opened
+///   and closed again, and no read of it failed; a text that was cut off is a front of that text, and the output's count of faults rose;
+///   what is refused has its cause in the file, at the first fault; a file that couldn't be opened or read has its count of faults risen,
+///   and wasn't opened, or was; and with none of the last two anything was written.
 /// - `complete`: a lawful file of a valid process of at most 4,096 states is solved, unless the outside fails or memory runs out.
 /// - `refused`: a file that is refused ends the command with that refusal, unless the outside fails or memory runs out.
 /// - `usage`, `idle`: `Usage` comes exactly where the words can't be run, with the first word that can't stand; then nothing is touched.
 /// - `asked`, `closed`, `never_falls`, `holds`, `outputs`, `named`: the place is asked for no file but the command's, what was opened is
 ///   closed, no count falls, and all else stays.
 ///
-/// Want of memory alone (`Memory`) has no cause in a clause. What rests on a file's bytes holds where the place tells them.
+/// Want of memory alone (`Memory`) has no cause in a clause. The file's bytes are those that the place holds, where it tells them. Where it
+/// doesn't, as the system's files don't, the clauses speak of some bytes: what was written is then still the whole right text of a model
+/// file, and a refusal one that a file has.
 pub fn solve_run<P: Place, K: Sink>(
     alloc: Global,
     words: &[Word],

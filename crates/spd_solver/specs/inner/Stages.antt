@@ -50,7 +50,7 @@ FailsToRead before now name limit (Unreadable.Open n) =
 FailsToRead before now name limit (Unreadable.Read n) =
     (n ≡ name) × Rose (before.faults name) (now.faults name) × (now.stage name ≡ Some Stage.Closed)
 FailsToRead before now name limit (Unreadable.TooLong n) =
-    (n ≡ name) × (now.faults ≡ before.faults) × IfSome (before.holds name) (λ bytes. limit < length bytes)
+    (n ≡ name) × (now.faults ≡ before.faults) × IfSome (before.holds name) (λ bytes. limit < length bytes) × (now.stage name ≡ Some Stage.Closed)
 FailsToRead before now name limit Unreadable.Memory = Unit {0}
 
 abbrev pub unreadable_status : Unreadable → Status

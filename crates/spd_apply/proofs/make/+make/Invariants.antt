@@ -4,8 +4,8 @@ use Rattle.spd_apply.specs.Halves.{pair_rank}
 use Rattle.spd_apply.specs.Rules.{below_rank}
 use Rattle.spd_apply.proofs.make.+make.Given as goal
 
-abbrev pub decreases-make_pair : goal.decreases-make_pair
-decreases-make_pair g l =
+abbrev pub decreases-recall_or_make : goal.decreases-recall_or_make
+decreases-recall_or_make g l =
     let shown = g.F.Forest.shows l.forest.now in
     3 * pair_rank (slots shown.sizes) (shown.tree l.f) (shown.tree l.g) + 2
 

@@ -23,7 +23,7 @@ returns-in_err-model-clause-answers g c = λ way.
     let now = seen g.P.Place.inputs g.K.Sink.taken g.K.Sink.faults c.read_file.new.place c.args.out.now in
     let p = err_from_is_err_and c.from_residual-in_err-model.result c.from_residual-in_err-model.ensures.1 in
     rw (p.1, p.2) (unread_answers way c.args.file.now c.args.options.now before now c.deref-2.result.now
-    (was_read c.args.file.now c.in_ok-bytes.bytes.items c.deref-2.result.now before now c.deref-2.ensures.value c.in_ok-bytes.ensures.held c.in_ok-bytes.ensures.within c.in_ok-bytes.ensures.calm)
+    (was_read c.args.file.now c.in_ok-bytes.bytes.items c.deref-2.result.now before now c.deref-2.ensures.value c.in_ok-bytes.ensures.held c.in_ok-bytes.ensures.within c.in_ok-bytes.ensures.read c.in_ok-bytes.ensures.calm)
     c.in_err-model.field-0.0 c.in_err-model.ensures.refused (refl, refl))
 
 pub returns-in_err-solution-clause-answers : goal.returns-in_err-solution-clause-answers
@@ -32,7 +32,7 @@ returns-in_err-solution-clause-answers g c = λ way.
     let now = seen g.P.Place.inputs g.K.Sink.taken g.K.Sink.faults c.read_file.new.place c.args.out.now in
     let p = err_from_is_err_and c.from_residual-in_err-solution.result c.from_residual-in_err-solution.ensures.1 in
     rw (p.1, p.2) (unsolved_answers way c.args.file.now c.args.options.now before now c.deref-2.result.now
-    (was_read c.args.file.now c.in_ok-bytes.bytes.items c.deref-2.result.now before now c.deref-2.ensures.value c.in_ok-bytes.ensures.held c.in_ok-bytes.ensures.within c.in_ok-bytes.ensures.calm)
+    (was_read c.args.file.now c.in_ok-bytes.bytes.items c.deref-2.result.now before now c.deref-2.ensures.value c.in_ok-bytes.ensures.held c.in_ok-bytes.ensures.within c.in_ok-bytes.ensures.read c.in_ok-bytes.ensures.calm)
     c.in_ok-model.model c.in_ok-model.ensures.read c.in_err-solution.field-0.0 c.in_err-solution.ensures.refused (refl, refl))
 
 pub returns-in_err-write_result-clause-answers : goal.returns-in_err-write_result-clause-answers
@@ -41,7 +41,7 @@ returns-in_err-write_result-clause-answers g c = λ way.
     let now = seen g.P.Place.inputs g.K.Sink.taken g.K.Sink.faults c.read_file.new.place c.write_result.new.k in
     let p = err_from_is_err_and c.from_residual-in_err-write_result.result c.from_residual-in_err-write_result.ensures.1 in
     rw (p.1, p.2) (cut_answers way c.args.file.now c.args.options.now before now c.deref-2.result.now
-    (was_read c.args.file.now c.in_ok-bytes.bytes.items c.deref-2.result.now before now c.deref-2.ensures.value c.in_ok-bytes.ensures.held c.in_ok-bytes.ensures.within c.in_ok-bytes.ensures.calm)
+    (was_read c.args.file.now c.in_ok-bytes.bytes.items c.deref-2.result.now before now c.deref-2.ensures.value c.in_ok-bytes.ensures.held c.in_ok-bytes.ensures.within c.in_ok-bytes.ensures.read c.in_ok-bytes.ensures.calm)
     c.in_ok-model.model c.in_ok-model.ensures.read
     c.digest_of-digest.result (c.digest_of-digest.ensures ∙ ap sha256 (c.deref.ensures.value ∙ sym c.deref-2.ensures.value))
     c.in_ok-solution.solution c.in_ok-solution.ensures.solved
@@ -60,7 +60,7 @@ returns-clause-answers g c = λ way.
     let x = c.in_ok-solution.solution in
     subst (λ (status : Status). Answers (solving way c.args.file.now c.args.options.now) status before now) (sym c.finished.ensures)
     (whole_answers way c.args.file.now c.args.options.now before now c.deref-2.result.now
-    (was_read c.args.file.now c.in_ok-bytes.bytes.items c.deref-2.result.now before now c.deref-2.ensures.value c.in_ok-bytes.ensures.held c.in_ok-bytes.ensures.within c.in_ok-bytes.ensures.calm)
+    (was_read c.args.file.now c.in_ok-bytes.bytes.items c.deref-2.result.now before now c.deref-2.ensures.value c.in_ok-bytes.ensures.held c.in_ok-bytes.ensures.within c.in_ok-bytes.ensures.read c.in_ok-bytes.ensures.calm)
     c.in_ok-model.model c.in_ok-model.ensures.read
     c.digest_of-digest.result (c.digest_of-digest.ensures ∙ ap sha256 (c.deref.ensures.value ∙ sym c.deref-2.ensures.value))
     x c.in_ok-solution.ensures.solved
