@@ -41,10 +41,10 @@ impl<'a> Outside<'a> {
 }
 
 /// Words from their texts.
-pub fn words<R: AllocGlobal>(rt: &R, texts: &[&[u8]]) -> Result<Vec<Word>, AllocError> {
+pub fn words<R: AllocGlobal>(rt: &R, texts: &[&str]) -> Result<Vec<Word>, AllocError> {
     let mut words = Vec::new(rt.alloc());
     for text in texts {
-        words.push(Items::from_slice(rt.alloc(), text)?)?;
+        words.push(Items::from_slice(rt.alloc(), text.as_bytes())?)?;
     }
     Ok(words)
 }
@@ -61,7 +61,7 @@ fn message<R: AllocGlobal>(rt: &R, status: &Status) -> Result<Vec<u8>, AllocErro
 /// What these words come to.
 pub fn run<R: AllocGlobal>(
     rt: &R,
-    texts: &[&[u8]],
+    texts: &[&str],
     outside: Outside<'_>,
 ) -> Result<Answer, AllocError> {
     let words = words(rt, texts)?;
@@ -82,5 +82,5 @@ pub fn run<R: AllocGlobal>(
 
 /// What `solve m` comes to for this file.
 pub fn solve<R: AllocGlobal>(rt: &R, file: &[u8]) -> Result<Answer, AllocError> {
-    run(rt, &[b"solve", b"m"], Outside::calm(file, 4096))
+    run(rt, &["solve", "m"], Outside::calm(file, 4096))
 }

@@ -1,7 +1,7 @@
 //! Model files of the tests.
 
 /// A variable that its only action keeps; being at `yes` is worth 1.
-pub const KEEP: &[u8] = b"(variables (x yes no))
+pub const KEEP: &str = "(variables (x yes no))
 action stay
 x (x (yes (x' (yes (1)) (no (0)))) (no (x' (yes (0)) (no (1)))))
 endaction
@@ -11,7 +11,7 @@ tolerance 0.1
 ";
 
 /// The same with a discount of 0.
-pub const KEEP_AT_ONCE: &[u8] = b"(variables (x yes no))
+pub const KEEP_AT_ONCE: &str = "(variables (x yes no))
 action stay
 x (x (yes (x' (yes (1)) (no (0)))) (no (x' (yes (0)) (no (1)))))
 endaction
@@ -21,7 +21,7 @@ tolerance 0.1
 ";
 
 /// The same with a tolerance of 0, which no turn up to the limit meets.
-pub const KEEP_EXACTLY: &[u8] = b"(variables (x yes no))
+pub const KEEP_EXACTLY: &str = "(variables (x yes no))
 action stay
 x (x (yes (x' (yes (1)) (no (0)))) (no (x' (yes (0)) (no (1)))))
 endaction
@@ -31,7 +31,7 @@ tolerance 0
 ";
 
 /// The same with a second action that does what the first does.
-pub const KEEP_OR_HOLD: &[u8] = b"(variables (x yes no))
+pub const KEEP_OR_HOLD: &str = "(variables (x yes no))
 action stay
 x (x (yes (x' (yes (1)) (no (0)))) (no (x' (yes (0)) (no (1)))))
 endaction
@@ -44,7 +44,7 @@ tolerance 0.1
 ";
 
 /// The same with a reward above 10^9 at both values.
-pub const KEEP_RICH: &[u8] = b"(variables (x yes no))
+pub const KEEP_RICH: &str = "(variables (x yes no))
 action stay
 x (x (yes (x' (yes (1)) (no (0)))) (no (x' (yes (0)) (no (1)))))
 endaction
@@ -54,7 +54,7 @@ tolerance 0.1
 ";
 
 /// The same with the greatest rewards and the greatest discount.
-pub const KEEP_FORTUNE: &[u8] = b"(variables (x yes no))
+pub const KEEP_FORTUNE: &str = "(variables (x yes no))
 action stay
 x (x (yes (x' (yes (1)) (no (0)))) (no (x' (yes (0)) (no (1)))))
 endaction
@@ -64,7 +64,7 @@ tolerance 0.1
 ";
 
 /// A die that is thrown anew in each step.
-pub const DIE: &[u8] = b"(variables (die one two three))
+pub const DIE: &str = "(variables (die one two three))
 action mix
 die (die' (one (0.333333333333)) (two (0.333333333333)) (three (0.333333333334)))
 endaction
@@ -74,7 +74,7 @@ tolerance 0.1
 ";
 
 /// A die whose probabilities sum to 0.9999.
-pub const LOADED_DIE: &[u8] = b"(variables (die one two three))
+pub const LOADED_DIE: &str = "(variables (die one two three))
 action mix
 die (die' (one (0.3333)) (two (0.3333)) (three (0.3333)))
 endaction
@@ -84,7 +84,7 @@ tolerance 0.1
 ";
 
 /// A die that its only action keeps.
-pub const KEPT_DIE: &[u8] = b"(variables (die one two three))
+pub const KEPT_DIE: &str = "(variables (die one two three))
 action stay
 die (die (one (die' (one (1)) (two (0)) (three (0)))) (two (die' (one (0)) (two (1)) (three (0)))) (three (die' (one (0)) (two (0)) (three (1)))))
 endaction
@@ -94,7 +94,7 @@ tolerance 0.1
 ";
 
 /// A probability below 0 beside one above 1.
-pub const DEBT: &[u8] = b"(variables (x yes no))
+pub const DEBT: &str = "(variables (x yes no))
 action a
 x (x' (yes (-0.5)) (no (1.5)))
 endaction
@@ -104,7 +104,7 @@ tolerance 0
 ";
 
 /// Four variables that their only action keeps, with rewards 1 to 16.
-pub const FOUR_KEPT: &[u8] = b"(variables (a yes no) (b yes no) (c yes no) (d yes no))
+pub const FOUR_KEPT: &str = "(variables (a yes no) (b yes no) (c yes no) (d yes no))
 action stay
 a (a (yes (a' (yes (1)) (no (0)))) (no (a' (yes (0)) (no (1)))))
 b (b (yes (b' (yes (1)) (no (0)))) (no (b' (yes (0)) (no (1)))))
@@ -117,7 +117,7 @@ tolerance 1
 ";
 
 /// A robot fetches coffee; rain makes it wet.
-pub const COFFEE_ROBOT: &[u8] = b"// A robot fetches coffee; rain makes it wet.
+pub const COFFEE_ROBOT: &str = "// A robot fetches coffee; rain makes it wet.
 (variables (huc yes no) (hrc yes no) (wet yes no)
            (rain yes no) (umb yes no) (loc office shop))
 dd keephuc (huc (yes (huc' (yes (1)) (no (0)))) (no (huc' (yes (0)) (no (1))))) enddd
@@ -154,7 +154,7 @@ tolerance 0.01
 ";
 
 /// A variable with one value.
-pub const ONLY: &[u8] = b"(variables (x only))
+pub const ONLY: &str = "(variables (x only))
 action a
 x (x' (only (1)))
 endaction
@@ -164,7 +164,7 @@ tolerance 100
 ";
 
 /// The same with the least loss, and a tolerance of 0.
-pub const ONLY_LOSES: &[u8] = b"(variables (x only))
+pub const ONLY_LOSES: &str = "(variables (x only))
 action a
 x (x' (only (1)))
 endaction
@@ -174,7 +174,7 @@ tolerance 0
 ";
 
 /// A variable that follows the next value of a later one.
-pub const FOLLOWS: &[u8] = b"(variables (x yes no) (y yes no))
+pub const FOLLOWS: &str = "(variables (x yes no) (y yes no))
 action go
 x (y' (yes (x' (yes (1)) (no (0)))) (no (x' (yes (0)) (no (1)))))
 y (y (yes (y' (yes (1)) (no (0)))) (no (y' (yes (0)) (no (1)))))
@@ -185,7 +185,7 @@ tolerance 0.1
 ";
 
 /// A lamp that is always on, which is worth 1 in each step.
-pub const LAMP: &[u8] = b"(variables (lamp on))
+pub const LAMP: &str = "(variables (lamp on))
 action stay
 lamp (1)
 endaction
@@ -195,7 +195,7 @@ tolerance 0.1
 ";
 
 /// The same, where the lamp is on with a probability of 0.9999.
-pub const LAMP_FAILS: &[u8] = b"(variables (lamp on))
+pub const LAMP_FAILS: &str = "(variables (lamp on))
 action stay
 lamp (0.9999)
 endaction
@@ -205,7 +205,7 @@ tolerance 0.1
 ";
 
 /// The same, where it is worth one unit more than 10^9.
-pub const LAMP_SHINES: &[u8] = b"(variables (lamp on))
+pub const LAMP_SHINES: &str = "(variables (lamp on))
 action stay
 lamp (1)
 endaction
@@ -215,7 +215,7 @@ tolerance 0.1
 ";
 
 /// Four variables of one to four values, with diagrams, costs and an arc between next values.
-pub const MIXED: &[u8] = b"// Values one to four, arcs, costs, sums and names.
+pub const MIXED: &str = "// Values one to four, arcs, costs, sums and names.
 (variables (fuel low 2.5 on c) (crop 2.5) (door d low 2.5) (road 1 d))
 dd next-fuel (crop (2.5 (fuel' (low (0)) (2.5 (1)) (on (0)) (c (0))))) enddd
 dd next-crop (crop' (2.5 (1))) enddd
@@ -240,7 +240,7 @@ tolerance 0.05
 ";
 
 /// A lamp that two switches work: each production of the grammar.
-pub const ALL: &[u8] = b"// Uses every production of the grammar: a lamp that two switches work.
+pub const ALL: &str = "// Uses every production of the grammar: a lamp that two switches work.
 (variables (lamp off dim on) (left up down) (right up down)) // seven values
 dd kept (left (up (left' (up (1)) (down (0)))) (down (left' (up (0)) (down (1))))) enddd
 dd fee (0.25) enddd

@@ -2,6 +2,10 @@
 #![tactic(auto)]
 
 #[cfg(test)]
+mod changed_heads;
+#[cfg(test)]
+mod changed_values;
+#[cfg(test)]
 mod command;
 #[cfg(test)]
 mod files;

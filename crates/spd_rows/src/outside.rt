@@ -7,7 +7,7 @@ use std::process::Abort;
 use std::test::Fail;
 
 /// The words of each of these commands.
-const SOLVE: &[&[u8]] = &[b"solve", b"m"];
+const SOLVE: &[&str] = &["solve", "m"];
 
 /// The most bytes that a model file may have.
 const FILE_LIMIT: usize = 4_194_304;
@@ -17,13 +17,17 @@ fn assert_answer<R: Abort>(rt: &R, answer: &Answer, number: u8, message: &str, t
     assert_eq!(rt; answer.number, number);
     assert_eq!(rt; answer.message.as_slice(), message.as_bytes());
     assert_eq!(rt; answer.output.len(), taken);
-    assert!(rt; KEEP_RESULT.starts_with(&answer.output));
+    assert!(rt; KEEP_RESULT.as_bytes().starts_with(&answer.output));
 }
 
 #[test]
 fn open_fails(rt: HostRuntime) -> Result<(), Fail> {
     for most in [1, 16] {
-        let answer = run(&rt, &[b"solve", b"other"], Outside::calm(KEEP, most))?;
+        let answer = run(
+            &rt,
+            &["solve", "other"],
+            Outside::calm(KEEP.as_bytes(), most),
+        )?;
         assert_answer(&rt, &answer, 3, "cannot open other\n", 0);
     }
     Ok(())
@@ -45,7 +49,7 @@ fn read_fails(rt: HostRuntime) -> Result<(), Fail> {
     ] {
         let outside = Outside {
             failing_reads: &[call],
-            ..Outside::calm(KEEP, most)
+            ..Outside::calm(KEEP.as_bytes(), most)
         };
         assert_answer(&rt, &run(&rt, SOLVE, outside)?, 3, "cannot read m\n", 0);
     }
@@ -53,7 +57,7 @@ fn read_fails(rt: HostRuntime) -> Result<(), Fail> {
     for (most, call) in [(1, 168), (16, 12)] {
         let outside = Outside {
             failing_reads: &[call],
-            ..Outside::calm(KEEP, most)
+            ..Outside::calm(KEEP.as_bytes(), most)
         };
         assert_answer(&rt, &run(&rt, SOLVE, outside)?, 0, "", 248);
     }
@@ -75,7 +79,7 @@ fn write_fails(rt: HostRuntime) -> Result<(), Fail> {
     ] {
         let outside = Outside {
             failing_writes: &[call],
-            ..Outside::calm(KEEP, most)
+            ..Outside::calm(KEEP.as_bytes(), most)
         };
         assert_answer(&rt, &run(&rt, SOLVE, outside)?, 12, "cannot write\n", taken);
     }
@@ -83,7 +87,7 @@ fn write_fails(rt: HostRuntime) -> Result<(), Fail> {
     for (most, call) in [(1, 248), (16, 16)] {
         let outside = Outside {
             failing_writes: &[call],
-            ..Outside::calm(KEEP, most)
+            ..Outside::calm(KEEP.as_bytes(), most)
         };
         assert_answer(&rt, &run(&rt, SOLVE, outside)?, 0, "", 248);
     }
@@ -95,11 +99,12 @@ fn write_fails(rt: HostRuntime) -> Result<(), Fail> {
 fn third_write_fails(rt: HostRuntime) -> Result<(), Fail> {
     let outside = Outside {
         failing_writes: &[2],
-        ..Outside::calm(COFFEE_ROBOT, 16)
+        ..Outside::calm(COFFEE_ROBOT.as_bytes(), 16)
     };
     let answer = run(&rt, SOLVE, outside)?;
     assert_eq!(rt; answer.number, 12);
-    assert_eq!(rt; answer.output.as_slice(), &COFFEE_ROBOT_RESULT[..32]);
+    assert_eq!(rt; answer.output.len(), 32);
+    assert!(rt; COFFEE_ROBOT_RESULT.as_bytes().starts_with(&answer.output));
     Ok(())
 }
 
@@ -109,13 +114,13 @@ fn output_is_full(rt: HostRuntime) -> Result<(), Fail> {
         for room in [0, 1, 100, 247] {
             let outside = Outside {
                 room,
-                ..Outside::calm(KEEP, most)
+                ..Outside::calm(KEEP.as_bytes(), most)
             };
             assert_answer(&rt, &run(&rt, SOLVE, outside)?, 12, "cannot write\n", room);
         }
         let outside = Outside {
             room: 248,
-            ..Outside::calm(KEEP, most)
+            ..Outside::calm(KEEP.as_bytes(), most)
         };
         assert_answer(&rt, &run(&rt, SOLVE, outside)?, 0, "", 248);
     }
@@ -124,7 +129,7 @@ fn output_is_full(rt: HostRuntime) -> Result<(), Fail> {
 
 /// The file with blanks at its end.
 fn padded<R: AllocGlobal>(rt: &R, len: usize) -> Result<Vec<u8>, Fail> {
-    let mut file = KEEP.to_vec(rt.alloc())?;
+    let mut file = KEEP.as_bytes().to_vec(rt.alloc())?;
     file.resize(len, b' ')?;
     Ok(file)
 }
@@ -160,7 +165,7 @@ fn long_file_fails(rt: HostRuntime) -> Result<(), Fail> {
 /// Where it is the test's own memory that isn't found, there is no answer.
 #[test]
 fn memory_is_refused(rt: HostRuntime) -> Result<(), Fail> {
-    let Ok(answer) = run(&rt, SOLVE, Outside::calm(KEEP, 16)) else {
+    let Ok(answer) = run(&rt, SOLVE, Outside::calm(KEEP.as_bytes(), 16)) else {
         return Ok(());
     };
     match answer.number {

@@ -8,11 +8,11 @@ use std::test::Fail;
 /// A run: what it shows, the file, the options, and the status, the message and the text that it comes to.
 type Row = (
     &'static str,
-    &'static [u8],
-    &'static [&'static [u8]],
+    &'static str,
+    &'static [&'static str],
     u8,
     &'static str,
-    &'static [u8],
+    &'static str,
 );
 
 /// Of a variable that its action keeps.
@@ -31,7 +31,7 @@ const KEPT: &[Row] = &[
     (
         "a turn limit of 2",
         KEEP,
-        &[b"--turns", b"2"],
+        &["--turns", "2"],
         8,
         "turn limit reached, residual 0.125000000\n",
         KEEP_TURNS_2_RESULT,
@@ -39,7 +39,7 @@ const KEPT: &[Row] = &[
     (
         "a turn limit in one word",
         KEEP,
-        &[b"--turns=2"],
+        &["--turns=2"],
         8,
         "turn limit reached, residual 0.125000000\n",
         KEEP_TURNS_2_RESULT,
@@ -50,12 +50,12 @@ const KEPT: &[Row] = &[
         &[],
         7,
         "reward of action stay at x=yes is 1000000000.000000001\n",
-        b"",
+        "",
     ),
     (
         "great rewards, two turns",
         KEEP_FORTUNE,
-        &[b"--turns", b"2"],
+        &["--turns", "2"],
         8,
         "turn limit reached, residual 999997000.002999999\n",
         KEEP_FORTUNE_TURNS_2_RESULT,
@@ -63,7 +63,7 @@ const KEPT: &[Row] = &[
     (
         "great rewards, fifty turns",
         KEEP_FORTUNE,
-        &[b"--turns", b"50"],
+        &["--turns", "50"],
         8,
         "turn limit reached, residual 999949001.274979176\n",
         KEEP_FORTUNE_TURNS_50_RESULT,
@@ -79,13 +79,13 @@ const DICE: &[Row] = &[
         &[],
         6,
         "sum of action mix, variable die at die=one is 0.999900000000\n",
-        b"",
+        "",
     ),
     ("a kept die", KEPT_DIE, &[], 0, "", KEPT_DIE_RESULT),
     (
         "ranges of values",
         KEPT_DIE,
-        &[b"--span", b"1", b"--turns", b"1"],
+        &["--span", "1", "--turns", "1"],
         8,
         "turn limit reached, residual 0.250000000\n",
         KEPT_DIE_SPAN_1_TURNS_1_RESULT,
@@ -96,7 +96,7 @@ const DICE: &[Row] = &[
         &[],
         5,
         "refused at byte 44: negative\n",
-        b"",
+        "",
     ),
 ];
 
@@ -107,7 +107,7 @@ const ONE_STATE: &[Row] = &[
     (
         "the least loss at once",
         ONLY_LOSES,
-        &[b"--turns", b"0"],
+        &["--turns", "0"],
         8,
         "turn limit reached, residual 0.000000001\n",
         ONLY_LOSES_TURNS_0_RESULT,
@@ -116,7 +116,7 @@ const ONE_STATE: &[Row] = &[
     (
         "one state, two turns",
         LAMP,
-        &[b"--turns", b"2"],
+        &["--turns", "2"],
         8,
         "turn limit reached, residual 0.125000000\n",
         LAMP_TURNS_2_RESULT,
@@ -127,7 +127,7 @@ const ONE_STATE: &[Row] = &[
         &[],
         6,
         "sum of action stay, variable lamp at lamp=on is 0.999900000000\n",
-        b"",
+        "",
     ),
     (
         "one state, a reward above its limit",
@@ -135,7 +135,7 @@ const ONE_STATE: &[Row] = &[
         &[],
         7,
         "reward of action stay at lamp=on is 1000000000.000000001\n",
-        b"",
+        "",
     ),
 ];
 
@@ -167,35 +167,40 @@ const ALL_FORMS: &[Row] = &[
 ];
 
 /// Runs a command on each row.
-fn assert_rows<R: AllocGlobal + Abort>(rt: &R, command: &[u8], rows: &[Row]) -> Result<(), Fail> {
+fn assert_rows<R: AllocGlobal + Abort>(rt: &R, command: &str, rows: &[Row]) -> Result<(), Fail> {
     for (what, file, options, number, message, output) in rows {
-        let mut words = vec![in rt.alloc(); command, b"m"]?;
+        let mut words = vec![in rt.alloc(); command, "m"]?;
         words.extend_from_slice(options)?;
-        let answer = run(rt, &words, Outside::calm(file, 4096))?;
+        let answer = run(rt, &words, Outside::calm(file.as_bytes(), 4096))?;
         assert_eq!(rt; answer.number, *number, "{what}");
         assert_eq!(rt; answer.message.as_slice(), message.as_bytes(), "{what}");
-        assert_eq!(rt; answer.output.as_slice(), *output, "{what}");
+        assert_eq!(rt; answer.output.as_slice(), output.as_bytes(), "{what}");
     }
     Ok(())
 }
 
+/// Runs both commands that solve a model on each row.
+fn assert_both<R: AllocGlobal + Abort>(rt: &R, rows: &[Row]) -> Result<(), Fail> {
+    assert_rows(rt, "solve", rows)?;
+    assert_rows(rt, "plain", rows)
+}
+
 #[test]
 fn results(rt: HostRuntime) -> Result<(), Fail> {
-    for command in [b"solve".as_slice(), b"plain"] {
-        for rows in [KEPT, DICE, ONE_STATE, SEVERAL, ALL_FORMS] {
-            assert_rows(&rt, command, rows)?;
-        }
-    }
-    Ok(())
+    assert_both(&rt, KEPT)?;
+    assert_both(&rt, DICE)?;
+    assert_both(&rt, ONE_STATE)?;
+    assert_both(&rt, SEVERAL)?;
+    assert_both(&rt, ALL_FORMS)
 }
 
 /// However few bytes a read gives and a write takes.
 #[test]
 fn byte_by_byte(rt: HostRuntime) -> Result<(), Fail> {
     for most in [1, 2, 16] {
-        let answer = run(&rt, &[b"solve", b"m"], Outside::calm(KEEP, most))?;
+        let answer = run(&rt, &["solve", "m"], Outside::calm(KEEP.as_bytes(), most))?;
         assert_eq!(rt; answer.number, 0);
-        assert_eq!(rt; answer.output.as_slice(), KEEP_RESULT);
+        assert_eq!(rt; answer.output.as_slice(), KEEP_RESULT.as_bytes());
     }
     Ok(())
 }

@@ -1,6 +1,6 @@
 //! The texts of results, as a plain calculation of the rules gives them (`tests/small/reference.py`).
 
-pub const KEEP_RESULT: &[u8] = b"spd result 2
+pub const KEEP_RESULT: &str = "spd result 2
 model a1e107272379ab8c6bebf4bd78c0c87b8cbb9f360f3561340e076f810c9ad9a3
 status done
 turn 5
@@ -16,7 +16,7 @@ policy 1
 end
 ";
 
-pub const KEEP_AT_ONCE_RESULT: &[u8] = b"spd result 2
+pub const KEEP_AT_ONCE_RESULT: &str = "spd result 2
 model 1d1500d0f04a1ab74dc99ba8c758fd9cf13483061dff2195035b314a3e73b9d8
 status done
 turn 0
@@ -32,7 +32,7 @@ policy 1
 end
 ";
 
-pub const KEEP_EXACTLY_RESULT: &[u8] = b"spd result 2
+pub const KEEP_EXACTLY_RESULT: &str = "spd result 2
 model 0bdb5fc78eebb1dcaa096aac69b292654a6cdd05fcc3f2ba1abe9eff7913f84b
 status limit
 turn 10000
@@ -48,7 +48,7 @@ policy 1
 end
 ";
 
-pub const KEEP_OR_HOLD_RESULT: &[u8] = b"spd result 2
+pub const KEEP_OR_HOLD_RESULT: &str = "spd result 2
 model 753f1aa3e68a18f983b8c59843746cb5122a3bde373ee1504106c8213edd9c54
 status done
 turn 5
@@ -64,7 +64,7 @@ policy 1
 end
 ";
 
-pub const KEEP_TURNS_2_RESULT: &[u8] = b"spd result 2
+pub const KEEP_TURNS_2_RESULT: &str = "spd result 2
 model a1e107272379ab8c6bebf4bd78c0c87b8cbb9f360f3561340e076f810c9ad9a3
 status limit
 turn 2
@@ -80,7 +80,7 @@ policy 1
 end
 ";
 
-pub const KEEP_FORTUNE_TURNS_2_RESULT: &[u8] = b"spd result 2
+pub const KEEP_FORTUNE_TURNS_2_RESULT: &str = "spd result 2
 model 8700d1fc11818661f896c5cf6fad0dda35b3d96cdd3e77b8bfb26e193e99653d
 status limit
 turn 2
@@ -96,7 +96,7 @@ policy 1
 end
 ";
 
-pub const KEEP_FORTUNE_TURNS_50_RESULT: &[u8] = b"spd result 2
+pub const KEEP_FORTUNE_TURNS_50_RESULT: &str = "spd result 2
 model 8700d1fc11818661f896c5cf6fad0dda35b3d96cdd3e77b8bfb26e193e99653d
 status limit
 turn 50
@@ -112,7 +112,7 @@ policy 1
 end
 ";
 
-pub const DIE_RESULT: &[u8] = b"spd result 2
+pub const DIE_RESULT: &str = "spd result 2
 model 8558ae0b435bf441eebbc1c6ed5323637caddf6ad9f9c1022bd1263ff6cf5bf5
 status done
 turn 3
@@ -128,7 +128,7 @@ policy 1
 end
 ";
 
-pub const KEPT_DIE_RESULT: &[u8] = b"spd result 2
+pub const KEPT_DIE_RESULT: &str = "spd result 2
 model 8f42f8df84b1c2467b803f6c918f38fe2a5860e2a4aa97f3f73cadb84ce929df
 status done
 turn 5
@@ -145,7 +145,7 @@ policy 1
 end
 ";
 
-pub const KEPT_DIE_SPAN_1_TURNS_1_RESULT: &[u8] = b"spd result 2
+pub const KEPT_DIE_SPAN_1_TURNS_1_RESULT: &str = "spd result 2
 model 8f42f8df84b1c2467b803f6c918f38fe2a5860e2a4aa97f3f73cadb84ce929df
 status limit
 turn 1
@@ -161,7 +161,7 @@ policy 1
 end
 ";
 
-pub const FOUR_KEPT_RESULT: &[u8] = b"spd result 2
+pub const FOUR_KEPT_RESULT: &str = "spd result 2
 model e81d716483001ba73ca3fb6760b41bc086d9f050505982470ed5e7ff03dbe082
 status done
 turn 5
@@ -205,7 +205,7 @@ policy 1
 end
 ";
 
-pub const COFFEE_ROBOT_RESULT: &[u8] = b"spd result 2
+pub const COFFEE_ROBOT_RESULT: &str = "spd result 2
 model a349ff31c77a9687d743b3092d7701d39a40f25741ce85ab5cb3c94da576e62a
 status done
 turn 72
@@ -258,7 +258,7 @@ policy 12
 end
 ";
 
-pub const ONLY_RESULT: &[u8] = b"spd result 2
+pub const ONLY_RESULT: &str = "spd result 2
 model 783e7aeecd1ebc7812da380e89ccbceda94deeeb21b0ea61edfa169a870f25db
 status done
 turn 0
@@ -272,7 +272,7 @@ policy 1
 end
 ";
 
-pub const ONLY_LOSES_RESULT: &[u8] = b"spd result 2
+pub const ONLY_LOSES_RESULT: &str = "spd result 2
 model f29413bc3d7a76a7dd6062fdac52e63d81091fe29b46ee52d42cc21c16eb28f3
 status done
 turn 1
@@ -286,7 +286,7 @@ policy 1
 end
 ";
 
-pub const ONLY_LOSES_TURNS_0_RESULT: &[u8] = b"spd result 2
+pub const ONLY_LOSES_TURNS_0_RESULT: &str = "spd result 2
 model f29413bc3d7a76a7dd6062fdac52e63d81091fe29b46ee52d42cc21c16eb28f3
 status limit
 turn 0
@@ -300,7 +300,7 @@ policy 1
 end
 ";
 
-pub const FOLLOWS_RESULT: &[u8] = b"spd result 2
+pub const FOLLOWS_RESULT: &str = "spd result 2
 model 78965aaf9ba3fbed43a0343f12bbf48bd62cc0ef1e46728f157cfa3196b681f4
 status done
 turn 5
@@ -320,7 +320,7 @@ policy 1
 end
 ";
 
-pub const LAMP_RESULT: &[u8] = b"spd result 2
+pub const LAMP_RESULT: &str = "spd result 2
 model 43e158512e19e7ee07440edf2bc94b356da822997ea4f1c2cc358f66a9041bf2
 status done
 turn 5
@@ -334,7 +334,7 @@ policy 1
 end
 ";
 
-pub const LAMP_TURNS_2_RESULT: &[u8] = b"spd result 2
+pub const LAMP_TURNS_2_RESULT: &str = "spd result 2
 model 43e158512e19e7ee07440edf2bc94b356da822997ea4f1c2cc358f66a9041bf2
 status limit
 turn 2
@@ -348,7 +348,7 @@ policy 1
 end
 ";
 
-pub const MIXED_RESULT: &[u8] = b"spd result 2
+pub const MIXED_RESULT: &str = "spd result 2
 model b9121ce9ed5dfb20251a41ebd24f3d372d513372acb3693f534adb5da125b13b
 status done
 turn 7
@@ -393,7 +393,7 @@ policy 1
 end
 ";
 
-pub const ALL_RESULT: &[u8] = b"spd result 2
+pub const ALL_RESULT: &str = "spd result 2
 model 29d570c2c9fe423165228b7f53ba7c551448334f7a19f5e09da1abafc6ec0df7
 status done
 turn 5
