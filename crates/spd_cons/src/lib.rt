@@ -19,6 +19,3 @@ mod words;
 pub use cons::{Cons, Full};
 pub use seat::Seat;
 pub use view::Size;
-
-#[cfg(test)]
-mod tests;

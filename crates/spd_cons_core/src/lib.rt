@@ -13,8 +13,6 @@ mod seat;
 mod spelling;
 mod steps;
 mod table;
-#[cfg(test)]
-mod tests;
 
 pub use call_count::Steps;
 pub use event::Event;

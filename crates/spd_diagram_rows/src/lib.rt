@@ -8,6 +8,8 @@ mod cases;
 #[cfg(test)]
 mod deep;
 #[cfg(test)]
+mod forests;
+#[cfg(test)]
 mod groves;
 #[cfg(test)]
 mod guarded;
@@ -16,10 +18,16 @@ mod indicators;
 #[cfg(test)]
 mod leaf_order;
 #[cfg(test)]
+mod machine;
+#[cfg(test)]
 mod maps;
+#[cfg(test)]
+mod memos;
 #[cfg(test)]
 mod reading;
 #[cfg(test)]
 mod restrictions;
 #[cfg(test)]
 mod tables;
+#[cfg(test)]
+mod weighing;

@@ -14,8 +14,6 @@ mod outside;
 mod real;
 mod shelf;
 mod streams;
-#[cfg(test)]
-mod tests;
 mod whole;
 
 pub use in_memory::{MemIn, MemOut};

@@ -6,4 +6,8 @@ mod beside;
 #[cfg(test)]
 mod filling;
 #[cfg(test)]
+mod jobs;
+#[cfg(test)]
 mod meeting;
+#[cfg(test)]
+mod running;

@@ -10,6 +10,3 @@ mod token;
 
 pub use lexer::{Lex, tokens};
 pub use token::{Kind, Token};
-
-#[cfg(test)]
-mod tests;

@@ -75,6 +75,3 @@ impl Memo {
         self.cache.len()
     }
 }
-
-#[cfg(test)]
-mod tests;

@@ -30,6 +30,3 @@ pub use reach::{count, reached};
 pub use refs::Refs;
 pub use same::{is_same_function, is_same_rest};
 pub use spd_cons_core::Steps;
-
-#[cfg(test)]
-mod tests;

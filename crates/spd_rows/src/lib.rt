@@ -8,9 +8,15 @@ mod changed_values;
 #[cfg(test)]
 mod command;
 #[cfg(test)]
+mod decimals;
+#[cfg(test)]
+mod edges;
+#[cfg(test)]
 mod files;
 #[cfg(test)]
 mod limits;
+#[cfg(test)]
+mod numbers;
 #[cfg(test)]
 mod outside;
 #[cfg(test)]
@@ -19,5 +25,7 @@ mod refused;
 mod solved;
 #[cfg(test)]
 mod texts;
+#[cfg(test)]
+mod tokens;
 #[cfg(test)]
 mod words;

@@ -14,8 +14,3 @@ pub use decimal::{Decimal, Scale, read_decimal};
 pub use division::{ceil_div, floor_div};
 pub use text::put_units;
 pub use unit::{law_read_back, scale};
-
-#[cfg(test)]
-mod decimal_tests;
-#[cfg(test)]
-mod tests;

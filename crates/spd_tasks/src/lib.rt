@@ -64,6 +64,3 @@ pub fn run_jobs<J: Job, G: Gate, R: Threads + Sync>(
 {
     thread::for_each_mut(rt, jobs, workers, &|i, job| run_one(gate, i, job));
 }
-
-#[cfg(test)]
-mod tests;

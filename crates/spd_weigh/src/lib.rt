@@ -15,6 +15,3 @@ mod weighing;
 pub use discounting::{discount, discount_with};
 pub use sum::{sum_out, sum_out_with};
 pub use way::Way;
-
-#[cfg(test)]
-mod tests;

@@ -1,4 +1,0 @@
-use Rattle.spd_cons.proofs.tests.keys_are_read_back.Given as goal
-
-abbrev pub ghosts-four_read_back : goal.ghosts-four_read_back
-ghosts-four_read_back g a = record { name = a.blank.name; parts = a.blank.parts }

@@ -1,4 +1,0 @@
-use Rattle.spd_weigh.proofs.tests.sums_and_products_are_rounded.Given as goal
-
-abbrev pub ghosts-alone : goal.ghosts-alone
-ghosts-alone g a = record { name = a.blank.name; parts = a.blank.parts }
