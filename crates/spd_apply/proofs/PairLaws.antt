@@ -1,5 +1,5 @@
 -- There are no more pairs of known entries whose trees are nodes of two trees than nodes of the one times nodes of the other.
-use Rattle.std.proofs.Common.{◌≡◌, zero, suc, ◌*◌, ◌≤◌, ◌⊎◌, inl, inr, ◌&&◌, Bool, true, false, cond, List, [], ◌∷◌, ◌++◌, All, length, length-append, map, refl, ap, sym, ◌∙◌, subst, true≢false, arith}
+use Rattle.std.proofs.Common.{◌≡◌, ◌*◌, ◌≤◌, ◌⊎◌, inl, inr, ◌&&◌, Bool, true, false, cond, List, [], ◌∷◌, ◌++◌, All, length, length-append, map, refl, ap, sym, ◌∙◌, subst, true≢false, arith}
 use Rattle.std.specs.Prelude.{Contains}
 use Rattle.std.specs.List.{IsDistinct, AllByRecursion}
 use Rattle.std.specs.Set.{is_member, unique_keys}
@@ -11,20 +11,16 @@ use Rattle.std.proofs.lemmas.List.Elements.{All-head, All-tail, All-map, All-wea
 use Rattle.std.proofs.lemmas.Map.Made.{length-le_from_is_member}
 use Rattle.std.proofs.lemmas.Map.Views.{list_any-from_Contains, Contains-from_any}
 use Rattle.spd_cons_core.specs.declared.key.Entry.{Entry}
+use Rattle.spd_cons_core.proofs.CallerLemmas.{contains_cases, contains_cons}
 use Rattle.spd_memo.proofs.CallerLemmas.{SamePair}
 use native.Mathlib.Nat.{suc-mul}
 use Rattle.spd_model.proofs.CallerLemmas.Lists.{Contains-map}
-use Rattle.spd_nodes.specs.Trees.{Tree, Ends, Tests, IsNode, Itself, InYes, InNo, tree_eq, subtrees_of}
+use Rattle.spd_nodes.specs.Trees.{Tree, IsNode, tree_eq, subtrees_of}
 use Rattle.spd_nodes.specs.Shown.{Shown, IsSound}
-use Rattle.spd_nodes.proofs.CallerLemmas.{leaf_eq-refl, tree_eq-true}
+use Rattle.spd_nodes.proofs.CallerLemmas.{equivalence, nodes-node, tree_eq-refl, tree_eq-true}
 use Rattle.spd_apply.specs.Costs.{pair_count, ArePart}
-use Rattle.spd_apply.proofs.HalfLaws.{eq-refl}
 
 -- ---- equality of pairs of trees
-
-tree_eq-itself : (t : Tree) → tree_eq t t ≡ true
-tree_eq-itself (Ends a) = leaf_eq-refl a
-tree_eq-itself (Tests l y n) = and_from _ _ (eq-refl l) (and_from _ _ (tree_eq-itself y) (tree_eq-itself n))
 
 abbrev pairs_eq : Tree × Tree → Tree × Tree → Bool
 pairs_eq p q = tree_eq p.0 q.0 && tree_eq p.1 q.1
@@ -37,16 +33,10 @@ pairs_eq-true p q h =
     λ i. (left i, right i)
 
 pairs_eq-itself : (p : Tree × Tree) → pairs_eq p p ≡ true
-pairs_eq-itself p = and_from _ _ (tree_eq-itself p.0) (tree_eq-itself p.1)
+pairs_eq-itself p = and_from _ _ (tree_eq-refl p.0) (tree_eq-refl p.1)
 
 laws : IsEquivalence pairs_eq
-laws = record { refl = pairs_eq-itself; symm = λ p q. flip p q (pairs_eq p q) (pairs_eq q p) refl refl; congr = λ p q r h. ap (λ v. pairs_eq v r) (pairs_eq-true p q h) }
-  where
-    flip : (p q : Tree × Tree) (a b : Bool) → pairs_eq p q ≡ a → pairs_eq q p ≡ b → a ≡ b
-    flip p q true true h k = refl
-    flip p q false false h k = refl
-    flip p q true false h k = sym (pairs_eq-itself q) ∙ ap (λ v. pairs_eq q v) (sym (pairs_eq-true p q h)) ∙ k
-    flip p q false true h k = sym h ∙ ap (λ v. pairs_eq p v) (pairs_eq-true q p k) ∙ pairs_eq-itself p
+laws = equivalence pairs_eq pairs_eq-itself pairs_eq-true
 
 -- ---- all pairs of two lists
 
@@ -63,44 +53,26 @@ length-all_pairs (t ∷ ts) us =
     let row : length (beside us t) ≡ length us = length-map us _ in
     omega (arith, length-append (beside us t) (all_pairs ts us), row, length-all_pairs ts us, suc-mul (length ts) (length us))
 
-tail-contains : {X : Type 0} (y : X) (xs : List X) (x : X) → Contains xs x → Contains (y ∷ xs) x
-tail-contains y xs x h = (suc h.0, omega (arith, h.1), h.2)
-
-head-or-tail : {X : Type 0} (y : X) (xs : List X) (x : X) → Contains (y ∷ xs) x → (y ≡ x) ⊎ Contains xs x
-head-or-tail y xs x (zero, near, is) = inl is
-head-or-tail y xs x (suc n, near, is) = inr (n, omega arith, is)
-
 Contains-all_pairs : (ts us : List Tree) (t u : Tree) → Contains ts t → Contains us u → Contains (all_pairs ts us) (t, u)
 Contains-all_pairs [] us t u h k = absurd (omega (arith, h.1))
-Contains-all_pairs (x ∷ ts) us t u h k = elim (head-or-tail x ts t h) [
+Contains-all_pairs (x ∷ ts) us t u h k = elim (contains_cases x ts t h) [
   | inl same ↦ Contains-append_left (beside us x) (all_pairs ts us) (t, u)
       (subst (λ v. Contains (beside us x) (v, u)) same (Contains-map (λ (v : Tree). (x, v)) us u k))
   | inr later ↦ Contains-append_right (beside us x) (all_pairs ts us) (t, u) (Contains-all_pairs ts us t u later k)
 ]
 
--- ---- the nodes of a tree, each once
-
-itself-there : (t : Tree) → Contains (subtrees_of t) t
-itself-there (Ends a) = (0, omega arith, refl)
-itself-there (Tests l y n) = (0, omega arith, refl)
-
-Contains-subtrees : {x t : Tree} → IsNode x t → Contains (subtrees_of t) x
-Contains-subtrees {x = x} Itself = itself-there x
-Contains-subtrees {x = x} (InYes {y = y} {n = n} {l = l} h) =
-    tail-contains (Tests l y n) (subtrees_of y ++ subtrees_of n) x (Contains-append_left (subtrees_of y) (subtrees_of n) x (Contains-subtrees h))
-Contains-subtrees {x = x} (InNo {y = y} {n = n} {l = l} h) =
-    tail-contains (Tests l y n) (subtrees_of y ++ subtrees_of n) x (Contains-append_right (subtrees_of y) (subtrees_of n) x (Contains-subtrees h))
+-- ---- a list with each tree once
 
 Contains-unique : (ts : List Tree) (t : Tree) → Contains ts t → Contains (unique_keys tree_eq ts) t
 Contains-unique [] t h = h
-Contains-unique (x ∷ ts) t h = go (Contains-unique ts t) (is_member tree_eq ts x) refl (head-or-tail x ts t h)
+Contains-unique (x ∷ ts) t h = go (Contains-unique ts t) (is_member tree_eq ts x) refl (contains_cases x ts t h)
   where
     go : (Contains ts t → Contains (unique_keys tree_eq ts) t) → (b : Bool) → is_member tree_eq ts x ≡ b → (x ≡ t) ⊎ Contains ts t
         → Contains (cond b (unique_keys tree_eq ts) (x ∷ unique_keys tree_eq ts)) t
     go later true e (inl same) = later (subst (λ v. Contains ts v) same (Contains-from_any tree_eq-true x ts e))
     go later true e (inr there) = later there
     go later false e (inl same) = (0, omega arith, same)
-    go later false e (inr there) = tail-contains x (unique_keys tree_eq ts) t (later there)
+    go later false e (inr there) = contains_cons x (unique_keys tree_eq ts) t (later there)
 
 -- ---- the pairs
 
@@ -144,7 +116,7 @@ module _ (s : Shown) (o : IsSound s) (t u : Tree) where
       let nodes : AreNodes q = All-contains AreNodes (map trees_of ps) q all there in
       list_any-from_Contains laws q _
       (Contains-all_pairs (unique_keys tree_eq (subtrees_of t)) (unique_keys tree_eq (subtrees_of u)) q.0 q.1
-      (Contains-unique (subtrees_of t) q.0 (Contains-subtrees nodes.0)) (Contains-unique (subtrees_of u) q.1 (Contains-subtrees nodes.1)))
+      (Contains-unique (subtrees_of t) q.0 (nodes-node q.0 t nodes.0)) (Contains-unique (subtrees_of u) q.1 (nodes-node q.1 u nodes.1)))
 
   pub pairs-few : (ps : List (Entry × Entry)) → All (ArePart s t u) ps → IsDistinct SamePair ps → length ps ≤ pair_count t u
   pairs-few ps parts h =

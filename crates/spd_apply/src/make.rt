@@ -27,6 +27,7 @@ fn recall<F: Forest, D: Descent>(
     requires { HoldsAnswers (D.making rule.now) (F.shows forest.now) memo.old }
     ensures kept { result ≡ answer_in memo.old.pairs f g }
     ensures pairs { memo.new.pairs ≡ promoted_in memo.old.pairs f g }
+    ensures before { IsKept memo.old }
     ensures distinct { IsKept memo.new }
     ensures answer { IfSome result (λ r. IsAnswer (D.making rule.now) (F.shows forest.now) f g r) }
     ensures memo { HoldsAnswers (D.making rule.now) (F.shows forest.now) memo.new }
@@ -113,7 +114,6 @@ pub fn make_pair<F: Forest, D: Descent, L: Ledger>(
     ensures capacity { memo.new.capacity ≡ memo.old.capacity }
     ensures steps { pair_count ((F.shows forest.old).tree f) ((F.shows forest.old).tree g) ≤ memo.old.capacity → steps.new ≤ steps.old + (1 + D.more_steps rule.now) * pair_count ((F.shows forest.old).tree f) ((F.shows forest.old).tree g) }
 {
-    let _ = memo.len();
     recall_or_make(forest, rule, f, g, memo, steps)
 }
 
@@ -132,6 +132,7 @@ fn recall_or_make<F: Forest, D: Descent, L: Ledger>(
     ensures keeps { F.kept forest.new ≡ F.kept forest.old }
     ensures memo { HoldsAnswers (D.making rule.now) (F.shows forest.new) memo.new }
     ensures capacity { memo.new.capacity ≡ memo.old.capacity }
+    ensures before { IsKept memo.old }
     ensures lower { AddsLower (F.shows forest.new) memo.old memo.new (below_rank (F.shows forest.old) (Below.Pair f g)) }
     ensures counts { Counts (F.shows forest.old) (F.shows forest.new) memo.old memo.new steps.old steps.new (1 + D.more_steps rule.now) (Below.Pair f g) (unkept_of result) }
 {

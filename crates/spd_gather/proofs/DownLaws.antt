@@ -129,22 +129,16 @@ module _ (ds : List ℕ) (stop : ℕ) (bottom : Making) (d : EndsAt ds stop bott
     children : (n : ℕ) (ts : List Tree) → Good n (l + 1) → Each (FitsAt ds l) ts → Children (down bottom n (l + 1) (map (yes_at l) ts)) (down bottom n (l + 1) (map (no_at l) ts))
     children n ts g h = go (nat_lt (l + 1) (after ds l)) refl
       where
-        ys : List Tree
-        ys = map (yes_at l) ts
-
-        ns : List Tree
-        ns = map (no_at l) ts
-
         inside : after ds l ≤ stop
         inside = d.within l level-in b
 
-        yes : IsReduced ds 0 (down bottom n (l + 1) ys) × IsFrom ds 0 (after ds l) (down bottom n (l + 1) ys)
-        yes = g.whole (after ds l) ys inside (each-map (FitsAt ds l) (Stands ds (l + 1)) (yes_at l) yes-stands ts h) (each-map (FitsAt ds l) (IsFrom ds 0 (after ds l)) (yes_at l) (λ t f. (splits t f).yes_from) ts h)
+        yes : IsReduced ds 0 (down bottom n (l + 1) (map (yes_at l) ts)) × IsFrom ds 0 (after ds l) (down bottom n (l + 1) (map (yes_at l) ts))
+        yes = g.whole (after ds l) (map (yes_at l) ts) inside (each-map (FitsAt ds l) (Stands ds (l + 1)) (yes_at l) yes-stands ts h) (each-map (FitsAt ds l) (IsFrom ds 0 (after ds l)) (yes_at l) (λ t f. (splits t f).yes_from) ts h)
 
-        go : (z : Bool) → nat_lt (l + 1) (after ds l) ≡ z → Children (down bottom n (l + 1) ys) (down bottom n (l + 1) ns)
+        go : (z : Bool) → nat_lt (l + 1) (after ds l) ≡ z → Children (down bottom n (l + 1) (map (yes_at l) ts)) (down bottom n (l + 1) (map (no_at l) ts))
         go true z =
             let i : l + 1 < after ds l = grind (arith, nat_tests) in
-            let j : Joins ds (l + 1) (down bottom n (l + 1) ns) = g.part ns (omega (arith, inside)) (each-map (FitsAt ds l) (FitsAt ds (l + 1)) (no_at l) (no-fits i) ts h) in
+            let j : Joins ds (l + 1) (down bottom n (l + 1) (map (no_at l) ts)) = g.part (map (no_at l) ts) (omega (arith, inside)) (each-map (FitsAt ds l) (FitsAt ds (l + 1)) (no_at l) (no-fits i) ts h) in
             record {
               yes_reduced = yes.0;
               no_reduced = j.reduced;
@@ -152,8 +146,8 @@ module _ (ds : List ℕ) (stop : ℕ) (bottom : Making) (d : EndsAt ds stop bott
             }
         go false z =
             let i : after ds l ≤ l + 1 = grind (arith, nat_tests) in
-            let k : IsReduced ds 0 (down bottom n (l + 1) ns) × IsFrom ds 0 (after ds l) (down bottom n (l + 1) ns) =
-            g.whole (after ds l) ns inside (each-map (FitsAt ds l) (Stands ds (l + 1)) (no_at l) no-stands ts h) (each-map (FitsAt ds l) (IsFrom ds 0 (after ds l)) (no_at l) (no-from i) ts h) in
+            let k : IsReduced ds 0 (down bottom n (l + 1) (map (no_at l) ts)) × IsFrom ds 0 (after ds l) (down bottom n (l + 1) (map (no_at l) ts)) =
+            g.whole (after ds l) (map (no_at l) ts) inside (each-map (FitsAt ds l) (Stands ds (l + 1)) (no_at l) no-stands ts h) (each-map (FitsAt ds l) (IsFrom ds 0 (after ds l)) (no_at l) (no-from i) ts h) in
             record { yes_reduced = yes.0; no_reduced = k.0; can_test = record { yes_fits = yes.1; no_fits = inl k.1 } }
 
     joined : (n : ℕ) (ts : List Tree) → Good n (l + 1) → Each (FitsAt ds l) ts → Joins ds l (down bottom (suc n) l ts)

@@ -1,3 +1,4 @@
 pub mod CallerLemmas
 pub mod KeptLaws
 pub mod NewestLaws
+pub mod ValidLaws

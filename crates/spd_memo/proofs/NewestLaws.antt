@@ -13,7 +13,7 @@ use Rattle.lru.proofs.CallerLemmas.{Contains-lookup_entry}
 use Rattle.spd_memo.specs.Kept.{KeptAnswers, IsKept, is_same_pair, answer_in, promoted_in, pairs_put, Keeps}
 use Rattle.spd_memo.proofs.KeptLaws.{is_same_pair-true}
 
-abbrev Pairs : Type 0
+abbrev pub Pairs : Type 0
 Pairs = List ((Entry × Entry) × Entry)
 
 -- ---- a pair that isn't kept isn't found, and the other way round
@@ -60,7 +60,7 @@ module _ (test : Entry × Entry → Bool) (P : (Entry × Entry) × Entry → Typ
       by_test (test e.0) (suc n) pairs (e ∷ remove_entry test pairs) later
       (All-cons P e (take n (remove_entry test pairs)) (All-head P e (take (suc n) pairs) h) (newest-without n pairs later))
 
-length-without : (test : Entry × Entry → Bool) (pairs : Pairs) (e : (Entry × Entry) × Entry) → lookup_entry test pairs ≡ Some e
+pub length-without : (test : Entry × Entry → Bool) (pairs : Pairs) (e : (Entry × Entry) × Entry) → lookup_entry test pairs ≡ Some e
     → suc (length (remove_entry test pairs)) ≡ length pairs
 length-without test [] e h = cc
 length-without test (p ∷ pairs) e h = go (length-without test pairs e) (test p.0) h
@@ -114,13 +114,13 @@ length-put n k f g r absent there room = rw (not-found k f g absent) (omega (ari
 abbrev pub SamePair : Entry × Entry → Entry × Entry → Bool
 SamePair p q = is_same_pair p.0 p.1 q
 
-apart-take : (p : Entry × Entry) (n : ℕ) (pairs : Pairs) → AllByRecursion (λ q. SamePair p q ≡ false) (keys_of pairs)
+pub apart-take : (p : Entry × Entry) (n : ℕ) (pairs : Pairs) → AllByRecursion (λ q. SamePair p q ≡ false) (keys_of pairs)
     → AllByRecursion (λ q. SamePair p q ≡ false) (keys_of (take n pairs))
 apart-take p zero pairs h = tt
 apart-take p (suc n) [] h = tt
 apart-take p (suc n) (e ∷ pairs) h = (h.0, apart-take p n pairs h.1)
 
-distinct-take : (n : ℕ) (pairs : Pairs) → IsDistinct SamePair (keys_of pairs) → IsDistinct SamePair (keys_of (take n pairs))
+pub distinct-take : (n : ℕ) (pairs : Pairs) → IsDistinct SamePair (keys_of pairs) → IsDistinct SamePair (keys_of (take n pairs))
 unfolding IsDistinct
 distinct-take zero pairs h = tt
 distinct-take (suc n) [] h = tt

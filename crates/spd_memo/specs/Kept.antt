@@ -1,5 +1,5 @@
 -- What a memo keeps.
-use Rattle.std.specs.Prelude.{ℕ, ◌≤◌, ◌==◌, ◌&&◌, Bool, List, ◌∷◌, Option, Contains, length, take, ◌-◌}
+use Rattle.std.specs.Prelude.{ℕ, ◌<◌, ◌≤◌, ◌==◌, ◌&&◌, Bool, List, ◌∷◌, Option, Contains, length, take, ◌-◌}
 use Rattle.std.specs.List.{IsDistinct}
 use Rattle.std.specs.Map.{keys_of, lookup, lookup_entry, remove_entry}
 use Rattle.std.specs.Option.{option_map_or}
@@ -31,10 +31,11 @@ pairs_put k f g r = option_map_or (λ e. (e.0, r) ∷ remove_entry (is_same_pair
 abbrev pub put_in : KeptAnswers → Entry → Entry → Entry → KeptAnswers
 put_in k f g r = record { pairs = pairs_put k f g r; capacity = k.capacity }
 
--- no pair is kept twice, and no more than the capacity
+-- no pair is kept twice, and no more than the capacity, which is at least 1
 pub record IsKept (k : KeptAnswers) : Type 0 where
   pub once : IsDistinct (λ (p q : Entry × Entry). is_same_pair p.0 p.1 q) (keys_of k.pairs)
   pub few : length k.pairs ≤ k.capacity
+  pub some : 0 < k.capacity
 
 -- a pair is kept, with some answer
 abbrev pub Keeps : KeptAnswers → Entry → Entry → Type 0

@@ -21,11 +21,13 @@ pub struct Memo {
 }
 
 impl Model for Memo {
-    ghost use Rattle.spd_memo.specs.Kept.{KeptAnswers};
+    ghost use Rattle.spd_memo.specs.Kept.{KeptAnswers, IsKept};
 
     ghost Value = { KeptAnswers };
 
     ghost view = { λ m. record { pairs = m.cache.entries; capacity = m.cache.cap } };
+
+    ghost invariant = { λ m. IsKept (record { pairs = m.cache.entries; capacity = m.cache.cap }) };
 }
 
 impl Memo {
@@ -47,11 +49,10 @@ impl Memo {
         ensures answer { result ≡ answer_in self.old.pairs f g }
         ensures kept { self.new.pairs ≡ promoted_in self.old.pairs f g }
         ensures capacity { self.new.capacity ≡ self.old.capacity }
+        ensures before { IsKept self.old }
         ensures distinct { IsKept self.new }
     {
-        let answer = self.cache.get(&(f, g)).copied();
-        let _ = self.len();
-        answer
+        self.cache.get(&(f, g)).copied()
     }
 
     /// Keeps an answer for a pair, as the newest one. A pair that wasn't kept drops the oldest of `capacity` pairs. Where
@@ -61,9 +62,7 @@ impl Memo {
         ensures err { OnErr result (self.new ≡ self.old) }
         ensures distinct { IsKept self.new }
     {
-        let _ = self.len();
         self.cache.put((f, g), r)?;
-        let _ = self.len();
         Ok(())
     }
 

@@ -13,6 +13,7 @@ use Rattle.std.proofs.lemmas.Map.Keys.{IsDistinct-push, apart_from_distinct, IsD
 use Rattle.std.proofs.lemmas.Map.Made.{length-from_keys}
 use Rattle.std.proofs.lemmas.Map.Views.{list_any-from_Contains, Contains-from_any}
 use Rattle.spd_cons_core.specs.declared.key.Entry.{Entry}
+use Rattle.spd_cons_core.proofs.CallerLemmas.{contains_cases, contains_cons}
 use Rattle.spd_nodes.specs.declared.leaf.Leaf.{Leaf}
 use Rattle.spd_nodes.specs.Trees.{Tree, Ends, Tests, tree_eq, IsNode, Itself, InYes, InNo, subtrees_of}
 use Rattle.spd_nodes.specs.Shown.{Shown, IsSound}
@@ -21,7 +22,7 @@ use Rattle.spd_nodes.proofs.KeyLaws.{same_entry}
 use Rattle.spd_nodes.proofs.TreeLaws.{tree_eq-refl, tree_eq-true, tree_eq-false}
 
 -- a test that is equality is an equivalence
-equivalence : {K : Type 0} (E : K → K → Bool) → ((x : K) → E x x ≡ true) → ((x y : K) → E x y ≡ true → x ≡ y) → IsEquivalence E
+pub equivalence : {K : Type 0} (E : K → K → Bool) → ((x : K) → E x x ≡ true) → ((x y : K) → E x y ≡ true → x ≡ y) → IsEquivalence E
 equivalence {K} E r s = record { refl = r; symm = λ x y. flip x y (E x y) (E y x) refl refl; congr = λ x y z h. ap (λ v. E v z) (s x y h) }
   where
     flip : (x y : K) (a b : Bool) → E x y ≡ a → E y x ≡ b → a ≡ b
@@ -72,30 +73,23 @@ out-of [] i d e q h = absurd (omega arith)
 out-of (r ∷ refs) zero d e q h = h
 out-of (r ∷ refs) (suc i) d e q h = out-of refs i d e (omega arith) h
 
-Contains-cons : {X : Type 0} (x y : X) (xs : List X) → Contains xs x → Contains (y ∷ xs) x
-Contains-cons x y xs m = (suc m.0, omega (arith, m.1), m.2)
-
 -- the list of a tree's nodes has the tree's nodes
 pub nodes-node : (x t : Tree) → IsNode x t → Contains (subtrees_of t) x
 nodes-node x (Ends a) h = (0, omega arith, sym (leaf-node x a h))
 nodes-node x (Tests l y n) h = elim (node-cases x y n l h) [
   | inl e ↦ (0, omega arith, sym e)
   | inr e ↦ elim e [
-    | inl i ↦ Contains-cons x (Tests l y n) (subtrees_of y ++ subtrees_of n) (Contains-append_left (subtrees_of y) (subtrees_of n) x (nodes-node x y i))
-    | inr i ↦ Contains-cons x (Tests l y n) (subtrees_of y ++ subtrees_of n) (Contains-append_right (subtrees_of y) (subtrees_of n) x (nodes-node x n i))
+    | inl i ↦ contains_cons (Tests l y n) (subtrees_of y ++ subtrees_of n) x (Contains-append_left (subtrees_of y) (subtrees_of n) x (nodes-node x y i))
+    | inr i ↦ contains_cons (Tests l y n) (subtrees_of y ++ subtrees_of n) x (Contains-append_right (subtrees_of y) (subtrees_of n) x (nodes-node x n i))
   ]
 ]
 
-Contains-head : {X : Type 0} (x y : X) (xs : List X) → Contains (y ∷ xs) x → (y ≡ x) ⊎ Contains xs x
-Contains-head x y xs (zero, q, e) = inl e
-Contains-head x y xs (suc i, q, e) = inr (i, omega arith, e)
-
 pub node-nodes : (x t : Tree) → Contains (subtrees_of t) x → IsNode x t
-node-nodes x (Ends a) h = elim (Contains-head x (Ends a) [] h) [
+node-nodes x (Ends a) h = elim (contains_cases (Ends a) [] x h) [
   | inl e ↦ subst (λ v. IsNode v (Ends a)) e Itself
   | inr m ↦ absurd (omega (arith, m.1))
 ]
-node-nodes x (Tests l y n) h = elim (Contains-head x (Tests l y n) (subtrees_of y ++ subtrees_of n) h) [
+node-nodes x (Tests l y n) h = elim (contains_cases (Tests l y n) (subtrees_of y ++ subtrees_of n) x h) [
   | inl e ↦ subst (λ v. IsNode v (Tests l y n)) e Itself
   | inr m ↦ elim (Contains-append_cases (subtrees_of y) (subtrees_of n) x m) [
     | inl i ↦ InYes (node-nodes x y i)

@@ -120,9 +120,6 @@ module _ (s : Shown) (o : IsSound s) (var : ℕ) (primed : Bool) (kids : List En
   abbrev kid : ℕ → Entry
   kid i = get_or kids i d
 
-  abbrev pub Branch : List Function
-  Branch = branch_functions var primed fs
-
   kid-function : (i : ℕ) → i < length kids → function_at fs i ≡ meaning s (kid i)
   kid-function i b = get_or-map (meaning s) kids i d (λ x y. Act 0) b
 
@@ -149,8 +146,8 @@ module _ (s : Shown) (o : IsSound s) (var : ℕ) (primed : Bool) (kids : List En
           let w : v ≡ variable_value var primed x y = grind (arith, nat_tests) in
           ap (λ (f : Function). f x y) (sym (kid-function v (omega arith)) ∙ ap (function_at fs) w)
 
-  pub last-made : (v : ℕ) → v + 1 ≡ length kids → MakesAmong s s (chosen_from v var primed fs) Branch (Ok (kid v))
-  last-made v e = makes_among-known s o (kid v) (chosen_from v var primed fs) Branch (stands-for s o (kid v) (chosen_from v var primed fs) (kid-known v (omega arith)) (kid-whole v (omega arith)) (last-agree v e))
+  pub last-made : (v : ℕ) → v + 1 ≡ length kids → MakesAmong s s (chosen_from v var primed fs) (branch_functions var primed fs) (Ok (kid v))
+  last-made v e = makes_among-known s o (kid v) (chosen_from v var primed fs) (branch_functions var primed fs) (stands-for s o (kid v) (chosen_from v var primed fs) (kid-known v (omega arith)) (kid-whole v (omega arith)) (last-agree v e))
 
   -- from the first value on it is the branch
   zero-agree : Agree s.sizes (chosen_from 0 var primed fs) (chosen var primed fs)
@@ -160,11 +157,11 @@ module _ (s : Shown) (o : IsSound s) (var : ℕ) (primed : Bool) (kids : List En
         rw a refl;
   }
 
-  pub branch-made : (t : Shown) (r : Result Entry StoreFault) → MakesAmong s t (chosen_from 0 var primed fs) Branch r → MakesAmong s t (chosen var primed fs) Branch r
+  pub branch-made : (t : Shown) (r : Result Entry StoreFault) → MakesAmong s t (chosen_from 0 var primed fs) (branch_functions var primed fs) r → MakesAmong s t (chosen var primed fs) (branch_functions var primed fs) r
   branch-made t r m = among-agrees o zero-agree m
 
   -- a kid in the place of a branch from the next value on
-  module _ (v : ℕ) (hv : v + 1 < length kids) (t : Shown) (rest : Entry) (made : MakesAmong s t (chosen_from (v + 1) var primed fs) Branch (Ok rest)) where
+  module _ (v : ℕ) (hv : v + 1 < length kids) (t : Shown) (rest : Entry) (made : MakesAmong s t (chosen_from (v + 1) var primed fs) (branch_functions var primed fs) (Ok rest)) where
     kid-tree : t.tree (kid v) ≡ s.tree (kid v)
     kid-tree = made.grows.trees (kid v) (kid-known v (omega arith))
 
@@ -179,5 +176,5 @@ module _ (s : Shown) (o : IsSound s) (var : ℕ) (primed : Bool) (kids : List En
           ∙ next-pick (variable_value var primed x y) v (function_at fs (length fs - 1) x y) (λ n. function_at fs n x y);
     }
 
-    pub step-made : (w : Shown) (r : Result Entry StoreFault) → MakesDiagram t w (replaced_at var primed v (meaning t (kid v)) (meaning t rest)) r → MakesAmong s w (chosen_from v var primed fs) Branch r
+    pub step-made : (w : Shown) (r : Result Entry StoreFault) → MakesDiagram t w (replaced_at var primed v (meaning t (kid v)) (meaning t rest)) r → MakesAmong s w (chosen_from v var primed fs) (branch_functions var primed fs) r
     step-made w r m = among-then (chosen-within s.sizes var primed fs v (length fs) (omega (arith, length-fs))) made (diagram-agrees made.sound step-agree m)

@@ -14,6 +14,9 @@ use Rattle.std.proofs.lemmas.Bool.{cases_order, ne_eqb}
 use Rattle.spd_apply.proofs.CallerLemmas.{GoesDown, Splits, eq-refl, made-whole, splits-fits, value_at-against}
 use Rattle.spd_restrict.specs.Replaced.{replaced_after, down_to, replaced, IsWholeFrom}
 
+minus-zero : (l : ℕ) → l - 0 ≡ l
+minus-zero l = omega arith
+
 -- the leaf of a half is the tree's leaf, where the test holds or doesn't
 pub value-yes : (ds : List ℕ) (l : ℕ) (t : Tree) (p : List ℕ) → passes ds l p ≡ true → value_at ds 0 (yes_at l t) p ≡ value_at ds 0 t p
 value-yes ds l (Ends a) p h = refl
@@ -49,9 +52,6 @@ module _ (ds : List ℕ) (slot first end : ℕ) (s : IsSlot ds slot first end) w
     value_at-replaced_after : (n l : ℕ) (t u : Tree) → first ≤ l → l + n < end → (l - first) + n ≡ value → value_at ds 0 (replaced_after n l t u) p ≡ picks (value_at ds 0 t p) (value_at ds 0 u p)
     value_at-replaced_after zero l t u g h e = value_at-join ds 0 l (yes_at l t) (no_at l u) p ∙ go (passes ds l p) refl
       where
-        z : l - 0 ≡ l
-        z = omega arith
-
         at : l - first ≡ value
         at = omega arith
 
@@ -59,15 +59,12 @@ module _ (ds : List ℕ) (slot first end : ℕ) (s : IsSlot ds slot first end) w
         is = passes-slot l p g (omega arith) i ∙ ap (λ v. get_or p slot 0 == v) at
 
         go : (b : Bool) → passes ds l p ≡ b → cond (passes ds (l - 0) p) (value_at ds 0 (yes_at l t) p) (value_at ds 0 (no_at l u) p) ≡ picks (value_at ds 0 t p) (value_at ds 0 u p)
-        go true q = let r : (get_or p slot 0 == value) ≡ true = sym is ∙ q in rw (z, q, r) (value-yes ds l t p q)
-        go false q = let r : (get_or p slot 0 == value) ≡ false = sym is ∙ q in rw (z, q, r) (value-no ds l u p q)
+        go true q = let r : (get_or p slot 0 == value) ≡ true = sym is ∙ q in rw (minus-zero l, q, r) (value-yes ds l t p q)
+        go false q = let r : (get_or p slot 0 == value) ≡ false = sym is ∙ q in rw (minus-zero l, q, r) (value-no ds l u p q)
     value_at-replaced_after (suc n) l t u g h e =
         value_at-join ds 0 l (yes_at l u) (replaced_after n (l + 1) (no_at l t) (no_at l u)) p
         ∙ go (passes ds l p) refl (value_at-replaced_after n (l + 1) (no_at l t) (no_at l u) (omega arith) (omega arith) (omega arith))
       where
-        z : l - 0 ≡ l
-        z = omega arith
-
         is : passes ds l p ≡ (get_or p slot 0 == l - first)
         is = passes-slot l p g (omega arith) i
 
@@ -76,8 +73,8 @@ module _ (ds : List ℕ) (slot first end : ℕ) (s : IsSlot ds slot first end) w
         go true q j =
             let k : get_or p slot 0 ≡ l - first = (Decides-eqb (get_or p slot 0) (l - first)).0 (sym is ∙ q) in
             let r : (get_or p slot 0 == value) ≡ false = ne_eqb (get_or p slot 0) value (omega arith) in
-            rw (z, q, r) (value-yes ds l u p q)
-        go false q j = rw (z, q) (j ∙ rw (value-no ds l t p q, value-no ds l u p q) refl)
+            rw (minus-zero l, q, r) (value-yes ds l u p q)
+        go false q j = rw (minus-zero l, q) (j ∙ rw (value-no ds l t p q, value-no ds l u p q) refl)
 
     picks-both : (t : Bool) (a x y : Leaf) → cond t (picks a x) (picks a y) ≡ picks a (cond t x y)
     picks-both true a x y = refl
@@ -197,13 +194,10 @@ pub fits-first : (ds : List ℕ) (first : ℕ) (t : Tree) → IsReduced ds 0 t �
 fits-first ds first (Ends a) r h f = inl tt
 fits-first ds first (Tests k y n) r h f = go (cases_order k first)
   where
-    e : k - 0 ≡ k
-    e = omega arith
-
     go : (k ≡ first) ⊎ (k < first) ⊎ (first < k) → IsAtOrPast ds first (Tests k y n)
     go (inl g) = inr g
     go (inr (inl g)) = absurd (omega arith)
-    go (inr (inr g)) = inl (first-past ds first k g (f h) (level_of-reduced ds k y n r), rw e (f h))
+    go (inr (inr g)) = inl (first-past ds first k g (f h) (level_of-reduced ds k y n r), rw (minus-zero k) (f h))
 
 pub whole-from : (ds : List ℕ) (first e : ℕ) (t : Tree) → IsFrom ds 0 e t → IsWholeFrom ds first t
 whole-from ds first e (Ends a) f = tt
