@@ -48,6 +48,10 @@ tells_stop : (m : Process) (options : Options) (why : Why) (r : ℤ) → why ≡
 tells_stop m options Why.Done r why is = sym why
 tells_stop m options Why.Limit r why is = (sym why, is)
 
+-- a run that is done ends so
+done_status : (why : Why) (r : ℤ) → why ≡ Why.Done → elim why [ Why.Done ↦ S.Done | Why.Limit ↦ S.TurnLimit r ] ≡ S.Done
+done_status why r is = ap (λ (w : Why). elim w [ Why.Done ↦ S.Done | Why.Limit ↦ S.TurnLimit r ]) is
+
 -- a run that was finished ends with its whole text
 finished_whole : (why : Why) (r : ℤ) → kind_of (elim why [ Why.Done ↦ S.Done | Why.Limit ↦ S.TurnLimit r ]) ≡ whole
 finished_whole Why.Done r = refl
@@ -135,6 +139,7 @@ module _ (way : Way) (file : List ℕ) (options : Options) (before now : Seen) w
             stop = tells_stop m options x.why x.iterate.residual.r h.why (ap (λ (i : Iterate). i.residual) h.iterate);
             written = (λ i. text_of (named i) m (h.why i) (h.iterate i));
             near_optimal = h.near_optimal;
+            enough = λ k enough within. done_status x.why x.iterate.residual.r (h.enough k enough within);
           },
         )
 
