@@ -1,4 +1,4 @@
-use Rattle.std.proofs.Common.{rules, ◌≡◌, ◌∙◌, ◌^◌, ◌<◌, ◌++◌, pos, List, length, take, drop, get_or, Some, None, ap, sym, subst, arith, FitsSigned}
+use Rattle.std.proofs.Common.{rules, ◌∙◌, ◌^◌, ◌<◌, ◌++◌, pos, List, length, take, drop, get_or, Some, None, ap, sym, subst, arith, FitsSigned}
 use Rattle.std.proofs.lemmas.Int.{to_z-of_z}
 use Rattle.std.proofs.lemmas.List.Elements.{All-contains}
 use Rattle.std.proofs.lemmas.Option.{slice_get_read}
@@ -32,20 +32,20 @@ value-requires-clause-next c =
     (near_state m law c.args.axis.now c.requires.axis c.args.place c.requires.place) c.index-as_slice-place.is
 
 -- the table that is read
-is_table : (c : goal.After-value) → IsTable c.args.model.now c.args.axis.now.var c.index-as_slice-var.result
+is_table : (c : goal.After-value) → IsTable c.args.model.now c.args.axis.now.var c.index-as_slice-axis.result
 is_table c =
     let m = c.args.model.now in
     let i = c.args.axis.now.var in
     let law = subst IsLawful c.model.view_is c.model.invariant in
     let action = All-contains (IsAction m) m.actions c.args.action.now law.actions c.requires.action in
-    let tree = c.index-as_slice-var.result in
-    subst (IsTable m i) (sym (c.index-as_slice-var.is ∙ ap (λ (l : List Tree). get_or l i tree) c.as_slice-2.ensures)) (action.tables i tree c.requires.axis.near)
+    let tree = c.index-as_slice-axis.result in
+    subst (IsTable m i) (sym (c.index-as_slice-axis.is ∙ ap (λ (l : List Tree). get_or l i tree) c.as_slice-2.ensures)) (action.tables i tree c.requires.axis.near)
 
 pub returns-clause-within : goal.returns-clause-within
 returns-clause-within c =
     let fits : FitsSigned w128 c.value.result = search rules in
     simp to_z-of_z (subst (IsWithin (pos (10 ^ 30))) (sym c.value.ensures)
-    (value_within c.args.model.now c.index-as_slice-var.result c.args.s.now c.index-as_slice-place.result (is_table c).form.fits))
+    (value_within c.args.model.now c.index-as_slice-axis.result c.args.s.now c.index-as_slice-place.result (is_table c).form.fits))
 
 pub returns-clause-value : goal.returns-clause-value
 returns-clause-value c =
@@ -56,9 +56,9 @@ returns-clause-value c =
     let a = c.args.action.now in
     let law = subst IsLawful c.model.view_is c.model.invariant in
     let action = All-contains (IsAction m) m.actions a law.actions c.requires.action in
-    let tree = c.index-as_slice-var.result in
+    let tree = c.index-as_slice-axis.result in
     let found = slice_get_read a.tables _ i tree (sym action.one_each) c.requires.axis.near
-    (c.index-as_slice-var.is ∙ ap (λ (l : List Tree). get_or l i tree) c.as_slice-2.ensures) in
+    (c.index-as_slice-axis.is ∙ ap (λ (l : List Tree). get_or l i tree) c.as_slice-2.ensures) in
     let next = c.index-as_slice-place.result in
     let all = c.as_slice.ensures ∙ c.requires.space.states in
     let near = near_state m law axis c.requires.axis c.args.place c.requires.place in
