@@ -1,9 +1,8 @@
 //! The probabilities of a variable's next values, read from the tables of a model.
 
-ghost use Rattle.std.specs.Prelude.{ℕ, ◌≡◌, ◌<◌, ◌≤◌, ◌+◌, ◌*◌, ◌^◌, ◌∷◌, [], length, map, drop, pos, slice_index, slice_index_or, Contains, IfOk, OnOk};
+ghost use Rattle.std.specs.Prelude.{ℕ, ◌≡◌, ◌<◌, ◌≤◌, ◌+◌, ◌*◌, ◌^◌, [], length, drop, pos, slice_index_or, Contains, IfOk, OnOk};
 ghost use Rattle.spd_scaled.specs.Scaled.{IsWithin};
-ghost use Rattle.spd_model.specs.Numbers.{numbers_below};
-ghost use Rattle.spd_model.specs.States.{sizes, states, state_count, IsState};
+ghost use Rattle.spd_model.specs.States.{sizes, states, IsState};
 ghost use Rattle.spd_model.specs.Chances.{sizes_after, sum_of};
 ghost use Rattle.spd_plain.specs.Space.{state_limit};
 ghost use Rattle.spd_plain.specs.inner.Axes.{IsSpace, IsAxis};

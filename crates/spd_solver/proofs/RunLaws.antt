@@ -14,17 +14,15 @@ use Rattle.spd_model.specs.Turns.{stop_of}
 use Rattle.spd_model.specs.ResultText.{Iterate, text_of}
 use Rattle.spd_frozen.specs.Told.{told}
 use Rattle.spd_syntax.specs.declared.unread.Unread.{Unread}
-use Rattle.spd_syntax.specs.declared.unread.Unread.TheVariants as Unread
 use Rattle.spd_reader.specs.Reading.{IsRead, TellsRefusal as TellsFault}
 use Rattle.spd_solver.specs.declared.file.Unreadable.{Unreadable}
-use Rattle.spd_solver.specs.declared.file.Unreadable.TheVariants as Unreadable
 use Rattle.spd_solver.specs.declared.solving.Solution.{Solution}
 use Rattle.spd_solver.specs.declared.solving.Unsolved.{Unsolved}
 use Rattle.spd_solver.specs.declared.status.Status.{Status}
 use Rattle.spd_solver.specs.declared.status.Status.TheVariants as S
 use Rattle.spd_solver.specs.Command.{Way, Command, solving, AskFor, OnCommand, IsUsage}
 use Rattle.spd_solver.specs.Kind.{Kind, whole, refusal, kind_of}
-use Rattle.spd_solver.specs.Run.{Ends, Refuses, HoldsRefused, HoldsAccepted, Seen, ReadsCalmly, IsUnwritten, Means, Completes, TellsRefusal}
+use Rattle.spd_solver.specs.Run.{Ends, Refuses, HoldsRefused, Seen, ReadsCalmly, IsUnwritten, Means, Completes, TellsRefusal}
 use Rattle.spd_solver.specs.Solve.{residual, file_limit, IsFileOf, TellsStop, RefusesFile}
 use Rattle.spd_solver.specs.inner.Stages.{IsSolution, IsUnsolved, FailsToRead, Asks, AskWrongly, Answers, ending, finished_status, unreadable_status, unread_status, unsolved_status}
 use Rattle.spd_solver.proofs.Causes.{file_once, file_right}

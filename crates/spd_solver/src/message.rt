@@ -72,15 +72,18 @@ fn write_states<K: Sink>(k: &mut K, product: u32) -> Result<(), Failed>
 {
     let mut digits = Buffer::new();
     let number = digits.format(product);
-    write_pieces(k, &[b"too many states: ", number.as_bytes(), b" or more", b"\n"])
+    write_pieces(
+        k,
+        &[b"too many states: ", number.as_bytes(), b" or more", b"\n"],
+    )
 }
 
 /// Writes the message of a sum that isn't one. The sum is in units of 10^-12.
-fn write_sum<K: Sink>(
+fn write_sum<'a, K: Sink>(
     k: &mut K,
-    action: &Text,
-    var: &Text,
-    state: &Text,
+    action: &'a Text,
+    var: &'a Text,
+    state: &'a Text,
     sum: i128,
 ) -> Result<(), Failed>
     ensures text { Wrote (K.taken k.old) (message_of (Status.Sum action.now var.now state.now sum)) result (K.taken k.new) }
@@ -106,10 +109,10 @@ fn write_sum<K: Sink>(
 }
 
 /// Writes the message of a reward that passes its limit. The reward is in units of 10^-9.
-fn write_range<K: Sink>(
+fn write_range<'a, K: Sink>(
     k: &mut K,
-    action: &Text,
-    state: &Text,
+    action: &'a Text,
+    state: &'a Text,
     value: i128,
 ) -> Result<(), Failed>
     ensures text { Wrote (K.taken k.old) (message_of (Status.Range action.now state.now value)) result (K.taken k.new) }
@@ -140,7 +143,10 @@ fn write_turn_limit<K: Sink>(k: &mut K, residual: i128) -> Result<(), Failed>
 {
     let mut digits = [0; 64];
     let len = put_units(residual, 9, &mut digits);
-    write_pieces(k, &[b"turn limit reached, residual ", &digits[..len], b"\n"])
+    write_pieces(
+        k,
+        &[b"turn limit reached, residual ", &digits[..len], b"\n"],
+    )
 }
 
 /// Writes the message of a status: one line, or nothing for `Done`.
