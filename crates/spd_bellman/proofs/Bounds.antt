@@ -18,7 +18,8 @@ use Rattle.spd_bellman.specs.Bound.{IsWithinError, IsBoundAbove, IsBoundBelow, I
 use Rattle.spd_model.proofs.CallerLemmas.Gaps.{gap_at_most, high_at_most, policy_low, policy_near}
 use Rattle.spd_model.proofs.CallerLemmas.Sums.{sum_over_states_mono, sum_over_states-*ℤ, sum_over_states_affine}
 use Rattle.spd_bellman.proofs.Expectations.{scale_by}
-use Rattle.spd_bellman.proofs.Returns.{natural_nonnegative, joint_nonnegative, joint-sum, low_encloses, high_encloses}
+use Rattle.spd_bellman.proofs.Signs.{natural_nonnegative}
+use Rattle.spd_bellman.proofs.Returns.{joint_nonnegative, joint-sum, low_encloses, high_encloses}
 use Rattle.spd_bellman.proofs.Policies.{numbered, offered_by, step-return_of_policy}
 
 -- ---- the step from n to n + 1 steps, in whole numbers

@@ -16,6 +16,7 @@ use Rattle.spd_model.proofs.CallerLemmas.Greatest.{greatest_at_least, greatest_r
 use Rattle.spd_model.proofs.CallerLemmas.Lists.{Contains-map}
 use Rattle.spd_model.proofs.CallerLemmas.StateOrder.{IsState-drop, IsState-none, length-sizes}
 use Rattle.spd_model.proofs.CallerLemmas.Chances.{Chance, AreChances, chances_of}
+use Rattle.spd_bellman.proofs.Signs.{natural_nonnegative, one_above, discount_above}
 
 -- ---- roundings
 
@@ -53,9 +54,6 @@ bounds_near = record {
 }
 
 -- ---- expectations
-
-one_above : pos 0 <ℤ one
-one_above = record { lt = tt }
 
 weighted : (p f k : ℤ) → p *ℤ (f +ℤ k) ≡ p *ℤ f +ℤ k *ℤ p
 weighted p f k = simp ring
@@ -98,12 +96,6 @@ discounted_step g e f k c d h l = let h' = simp ring at h in omega (arith, ints)
 added_step : (reward x y c : ℤ) → x ≤ℤ (y +ℤ c) → (reward +ℤ x) ≤ℤ ((reward +ℤ y) +ℤ c)
 added_step reward x y c h = omega (arith, ints)
 
-discount_above : pos 0 <ℤ pos discount_one
-discount_above = record { lt = tt }
-
-pub natural : (n : ℕ) → pos 0 ≤ℤ pos n
-natural n = omega (arith, ints)
-
 none_near : (c : ℤ) → pos 0 ≤ℤ c → pos 0 ≤ℤ (pos 0 +ℤ c)
 none_near c h = omega (arith, ints)
 
@@ -140,7 +132,7 @@ module _ (m : Process) (valid : IsValid m) (first second : Rounding) (extra : �
       (IsState-none (sizes m) (length m.vars) (omega (arith, length-sizes m))) in
       added_step (reward_of m a s) (first (g *ℤ e) (pos discount_one)) (second (g *ℤ f) (pos discount_one)) (q +ℤ pos extra)
       (near.near (g *ℤ e) (g *ℤ f) q (pos discount_one) discount_above
-      (discounted_step g e f k q (pos discount_one) (*ℤ_mono_right g e (f +ℤ k) (natural m.discount) apart) discounted))
+      (discounted_step g e f k q (pos discount_one) (*ℤ_mono_right g e (f +ℤ k) (natural_nonnegative m.discount) apart) discounted))
 
   pub best_near : pos 0 ≤ℤ q → (s : List ℕ) → IsState (sizes m) s
       → greatest (map (λ a. return_of first m (expectation first m w) a s) m.actions)

@@ -1,6 +1,6 @@
 -- The expectation that sums out one variable after another: the rounded ones enclose the exact one, and the exact one is the sum
 -- over all next states. Here a chance may depend on the next values of the later variables too.
-use Rattle.std.proofs.Common.{◌≡◌, ℕ, zero, suc, ◌^◌, ◌≤◌, List, [], ◌∷◌, length, drop, slice_index, ℤ, pos, ◌*ℤ◌, ◌≤ℤ◌, ◌<ℤ◌, refl, ap, sym, ◌∙◌, subst, arith}
+use Rattle.std.proofs.Common.{◌≡◌, ℕ, zero, suc, ◌^◌, ◌≤◌, List, [], ◌∷◌, length, drop, slice_index, ℤ, pos, ◌*ℤ◌, ◌≤ℤ◌, refl, ap, sym, ◌∙◌, subst, arith}
 use Rattle.std.proofs.lemmas.Int.{ints}
 use Rattle.std.proofs.Math.Nat.{pow-suc}
 use Rattle.spd_scaled.specs.Scaled.{floor_div, ceil_div}
@@ -13,6 +13,7 @@ use Rattle.spd_model.specs.Backup.{expected_by}
 use Rattle.spd_model.proofs.CallerLemmas.StateOrder.{IsState-drop, IsState-none}
 use Rattle.spd_model.proofs.CallerLemmas.Chances.{Chance, AreChances}
 use Rattle.spd_model.proofs.CallerLemmas.Sums.{sum_below-cong, sum_below_mono, sum_below-*ℤ, sum_over_states-cong, sum_over_states_swap}
+use Rattle.spd_bellman.proofs.Signs.{one_above}
 
 -- the expectation of w with no rounding, in parts of one to the power of the number of variables
 abbrev pub exact_by : (ℕ → ℕ) → Chance → (List ℕ → ℤ) → ℕ → List ℕ → ℤ
@@ -30,9 +31,6 @@ pub scale_by_nonnegative : (i : ℕ) → pos 0 ≤ℤ scale_by i
 scale_by_nonnegative i = omega (arith, ints)
 
 -- ---- the rounded expectations enclose the exact one
-
-one_above : pos 0 <ℤ one
-one_above = record { lt = tt }
 
 at_most : (x : ℤ) → (one *ℤ floor_div x one) ≤ℤ x
 at_most x = rw (*ℤ_comm one (floor_div x one)) (floor_div_at_most x one one_above)

@@ -1,3 +1,4 @@
+mod Signs
 mod Expectations
 mod Returns
 mod Policies

@@ -2,7 +2,7 @@
 -- widest range.
 use Rattle.std.proofs.Common.{◌≡◌, ◌⊎◌, inl, inr, ℕ, zero, suc, ◌<◌, Bool, true, false, ◌||◌, if◌then◌else◌, List, [], ◌∷◌, ◌++◌, length, fold, get_or, All, ℤ, pos, ◌+ℤ◌, ◌≤ℤ◌, ◌<ℤ◌, int_le, int_lt, refl, sym, ◌∙◌, true≢false, arith}
 use Rattle.std.specs.List.{list_any}
-use Rattle.std.proofs.lemmas.Bool.{and_parts, and_from, or_cases, or_left, or_right}
+use Rattle.std.proofs.lemmas.Bool.{and_parts, and_from, or_cases, or_parts, or_left, or_right}
 use Rattle.std.proofs.lemmas.Int.{ints, int_max_is}
 use Rattle.std.proofs.lemmas.List.Elements.{All-nil, All-cons, All-head, All-tail, All-append, All-weaker}
 use Rattle.std.proofs.lemmas.List.Folds.{list_any-append}
@@ -39,12 +39,8 @@ before_low p q h = elim (or_cases (int_lt p.low q.low) _ h) [
   | inr tied ↦ let e = int_eq-true p.low q.low (and_parts _ _ tied).0 in omega (arith, ints)
 ]
 
-or_first_false : (a b : Bool) → (a || b) ≡ false → a ≡ false
-or_first_false false b h = refl
-or_first_false true b h = absurd (true≢false h)
-
 not_before_low : (p q : Range) → is_before p q ≡ false → q.low ≤ℤ p.low
-not_before_low p q h = int_lt-false p.low q.low (or_first_false (int_lt p.low q.low) _ h)
+not_before_low p q h = int_lt-false p.low q.low (or_parts (int_lt p.low q.low) _ h).0
 
 low_trans : (x : ℤ) (p q : Range) → x ≤ℤ p.low → p.low ≤ℤ q.low → x ≤ℤ q.low
 low_trans x p q h k = omega (arith, ints)

@@ -1,5 +1,5 @@
 -- The joint probabilities of a process, and the bounds of an action round its exact return.
-use Rattle.std.proofs.Common.{◌≡◌, ℕ, suc, ◌+◌, List, [], ◌∷◌, length, drop, slice_index, Contains, ℤ, pos, ◌+ℤ◌, ◌*ℤ◌, ◌≤ℤ◌, ◌<ℤ◌, refl, ap, sym, ◌∙◌, subst, arith}
+use Rattle.std.proofs.Common.{◌≡◌, ℕ, suc, ◌+◌, List, [], ◌∷◌, length, drop, slice_index, Contains, ℤ, pos, ◌+ℤ◌, ◌*ℤ◌, ◌≤ℤ◌, refl, ap, sym, ◌∙◌, subst, arith}
 use Rattle.std.proofs.lemmas.Int.{ints}
 use Rattle.spd_scaled.specs.Scaled.{floor_div, ceil_div}
 use Rattle.spd_scaled.proofs.CallerLemmas.Ring.{ring, *ℤ_mono_right}
@@ -13,6 +13,7 @@ use Rattle.spd_bellman.specs.Courses.{exact_return}
 use Rattle.spd_model.proofs.CallerLemmas.Sums.{sum_over_states-cong}
 use Rattle.spd_model.proofs.CallerLemmas.StateOrder.{length-sizes, IsState-none}
 use Rattle.spd_model.proofs.CallerLemmas.Chances.{Chance, AreChances, chances_of}
+use Rattle.spd_bellman.proofs.Signs.{natural_nonnegative, discount_above}
 use Rattle.spd_bellman.proofs.Expectations.{exact_by, scale_by, scale_by_nonnegative, encloses_below, encloses_above, joint_by, exact_by-sum, joint_by_nonnegative, joint_by-sum}
 
 -- the joint probability is the product of the chances of its values
@@ -31,12 +32,6 @@ low_step d p g reward f e s h k = let h' = simp ring at h in let k' = simp ring 
 high_step : (d p g reward f e s : ℤ) → (p *ℤ (g *ℤ e)) ≤ℤ (p *ℤ (f *ℤ d)) → (g *ℤ s) ≤ℤ (g *ℤ (p *ℤ e))
     → ((d *ℤ p) *ℤ reward +ℤ g *ℤ s) ≤ℤ ((d *ℤ p) *ℤ (reward +ℤ f))
 high_step d p g reward f e s h k = let h' = simp ring at h in let k' = simp ring at k in simp ring (omega (arith, ints))
-
-one_above : pos 0 <ℤ pos discount_one
-one_above = record { lt = tt }
-
-pub natural_nonnegative : (n : ℕ) → pos 0 ≤ℤ pos n
-natural_nonnegative n = omega (arith, ints)
 
 module _ (m : Process) (valid : IsValid m) (a : Action) (offered : Contains m.actions a) (s : List ℕ) (is : IsState (sizes m) s) where
   abbrev chance : Chance
@@ -71,7 +66,7 @@ module _ (m : Process) (valid : IsValid m) (a : Action) (offered : Contains m.ac
         let p = scale_by (length m.vars) in
         let g = pos m.discount in
         low_step (pos discount_one) p g (reward_of m a s) (floor_div (g *ℤ e) (pos discount_one)) e (sum_over_states (sizes m) (λ t. joint m a s t *ℤ w t))
-        (*ℤ_mono_right p _ _ (scale_by_nonnegative (length m.vars)) (floor_div_at_most (g *ℤ e) (pos discount_one) one_above))
+        (*ℤ_mono_right p _ _ (scale_by_nonnegative (length m.vars)) (floor_div_at_most (g *ℤ e) (pos discount_one) discount_above))
         (*ℤ_mono_right g _ _ (natural_nonnegative m.discount)
         (subst (λ x. (p *ℤ e) ≤ℤ x) exact-sum
         (encloses_below (sizes m) chance chances w (length m.vars) [] (omega (arith, length-sizes m)) none_left)))
@@ -82,7 +77,7 @@ module _ (m : Process) (valid : IsValid m) (a : Action) (offered : Contains m.ac
         let p = scale_by (length m.vars) in
         let g = pos m.discount in
         high_step (pos discount_one) p g (reward_of m a s) (ceil_div (g *ℤ e) (pos discount_one)) e (sum_over_states (sizes m) (λ t. joint m a s t *ℤ w t))
-        (*ℤ_mono_right p _ _ (scale_by_nonnegative (length m.vars)) (ceil_div_at_least (g *ℤ e) (pos discount_one) one_above))
+        (*ℤ_mono_right p _ _ (scale_by_nonnegative (length m.vars)) (ceil_div_at_least (g *ℤ e) (pos discount_one) discount_above))
         (*ℤ_mono_right g _ _ (natural_nonnegative m.discount)
         (subst (λ x. x ≤ℤ (p *ℤ e)) exact-sum
         (encloses_above (sizes m) chance chances w (length m.vars) [] (omega (arith, length-sizes m)) none_left)))

@@ -22,7 +22,8 @@ use Rattle.spd_model.proofs.CallerLemmas.StateOrder.{All-table_of, get_or-states
 use Rattle.spd_bellman.specs.TurnBound.{residual_at, added_by_turn, error_that_stays, error_allowed, is_enough, leaves_room}
 use Rattle.spd_bellman.proofs.StopLaws.{is_first_stop}
 use Rattle.spd_bellman.proofs.Merges.{IsMiddle, IsNarrow, merged_middle}
-use Rattle.spd_bellman.proofs.Changes.{natural, floors_near, ceils_near, bounds_near, best_near}
+use Rattle.spd_bellman.proofs.Signs.{natural_nonnegative, discount_above}
+use Rattle.spd_bellman.proofs.Changes.{floors_near, ceils_near, bounds_near, best_near}
 
 -- ---- the residual is at most what bounds all gaps
 
@@ -92,9 +93,6 @@ max_parts x y c h = (omega (arith, ints, int_max_is x y), omega (arith, ints, in
 two_above : pos 0 <ℤ pos 2
 two_above = record { lt = tt }
 
-discount_above : pos 0 <ℤ pos discount_one
-discount_above = record { lt = tt }
-
 halved_most : (x : ℤ) → (floor_div x (pos 2) +ℤ floor_div x (pos 2)) ≤ℤ x
 halved_most x = let h = floor_div_at_most x (pos 2) two_above in omega (arith, ints)
 
@@ -130,7 +128,7 @@ module _ (m : Process) (valid : IsValid m) (most : m.discount ≤ discount_one) 
   narrow_at s is =
       let apart : best_high m w s ≤ℤ (best_low m w s +ℤ (roundings +ℤ pos 2)) =
       best_near m valid _ _ 2 bounds_near w w (pos 0) roundings (λ t there. at_itself (w t))
-      (weighed_at_most (pos m.discount) (pos discount_one) roundings (natural (length m.vars * 2)) (omega (arith, ints))) (natural (length m.vars * 2)) s is in
+      (weighed_at_most (pos m.discount) (pos discount_one) roundings (natural_nonnegative (length m.vars * 2)) (omega (arith, ints))) (natural_nonnegative (length m.vars * 2)) s is in
       let wide = max_second span (pos (2 * length m.vars + 2)) in
       omega (arith, ints, apart, wide)
 
@@ -178,7 +176,7 @@ module _ (m : Process) (valid : IsValid m) (most : m.discount ≤ discount_one) 
   moved_some : pos 0 ≤ℤ moved
   moved_some =
       quotient_some (pos m.discount *ℤ (residual +ℤ half)) (pos discount_one) discount_above
-      (*ℤ_nonnegative (pos m.discount) (residual +ℤ half) (natural m.discount)
+      (*ℤ_nonnegative (pos m.discount) (residual +ℤ half) (natural_nonnegative m.discount)
       (sum_some residual half (residual_nonnegative m w) half_some))
 
   module _ (s : List ℕ) (is : IsState (sizes m) s) where
@@ -213,7 +211,7 @@ module _ (m : Process) (valid : IsValid m) (most : m.discount ≤ discount_one) 
 
   pub shrinks : (pos discount_one *ℤ residual_of m next_value) ≤ℤ (pos m.discount *ℤ residual_of m w +ℤ pos discount_one *ℤ (width +ℤ pos 2))
   shrinks =
-      shrinks_step (pos discount_one) (pos m.discount) residual width half moved (residual_of m next_value) (natural m.discount) (omega (arith, ints))
+      shrinks_step (pos discount_one) (pos m.discount) residual width half moved (residual_of m next_value) (natural_nonnegative m.discount) (omega (arith, ints))
       width_some half_most (ceil_div_last_below (pos m.discount *ℤ (residual +ℤ half)) (pos discount_one) discount_above)
       (residual_at_most m next_value (half +ℤ moved) (sum_some half moved half_some moved_some) next_gap)
 
@@ -328,16 +326,16 @@ module _ (m : Process) (valid : IsValid m) (span : ℤ) where
   IsShrunk p q here = ((rest *ℤ p) *ℤ here) ≤ℤ ((rest *ℤ q) *ℤ first +ℤ (p *ℤ pos discount_one) *ℤ added)
 
   weight_some : (k : ℕ) → pos 0 ≤ℤ (rest *ℤ pos (discount_one ^ k))
-  weight_some k = *ℤ_nonnegative rest (pos (discount_one ^ k)) (natural (discount_one - m.discount)) (natural (discount_one ^ k))
+  weight_some k = *ℤ_nonnegative rest (pos (discount_one ^ k)) (natural_nonnegative (discount_one - m.discount)) (natural_nonnegative (discount_one ^ k))
 
   shrunk : m.discount ≤ discount_one → (k : ℕ) → IsShrunk (pos (discount_one ^ k)) (pos (m.discount ^ k)) (residual_at m span k)
   shrunk most zero =
       subst₂ (λ p q. IsShrunk p q first) (sym (ap pos (pow-zero discount_one))) (sym (ap pos (pow-zero m.discount)))
-      (begun rest first (pos discount_one) added (natural discount_one) (omega (arith, ints, added_some)))
+      (begun rest first (pos discount_one) added (natural_nonnegative discount_one) (omega (arith, ints, added_some)))
   shrunk most (suc k) =
       subst₂ (λ p q. IsShrunk p q (residual_at m span (suc k))) (sym (ap pos (pow-suc discount_one k))) (sym (ap pos (pow-suc m.discount k)))
       (bound_step (pos discount_one) (pos m.discount) rest (pos (discount_one ^ k)) (pos (m.discount ^ k)) first (residual_at m span k)
-      (residual_at m span (suc k)) added (omega (arith, ints)) (natural m.discount) (weight_some k) (shrunk most k)
+      (residual_at m span (suc k)) added (omega (arith, ints)) (natural_nonnegative m.discount) (weight_some k) (shrunk most k)
       (shrinks m valid most span (at (sizes m) (turn m span k))))
 
   pub enough_holds : (k : ℕ) → is_enough m span k ≡ true → rule_at m span k ≡ true
@@ -349,8 +347,8 @@ module _ (m : Process) (valid : IsValid m) (span : ℤ) where
       let holds = le_true _ _ h in
       elim (cases_lt m.discount discount_one) [
         | inl less ↦ le_holds _ _
-            (enough_step (pos 2) (pos discount_one) rest p q first (residual_at m span k) added n m.tolerance (natural 2) (natural discount_one)
-            (omega (arith, ints)) power (natural (length m.vars + 1)) (shrunk (omega arith) k) holds)
+            (enough_step (pos 2) (pos discount_one) rest p q first (residual_at m span k) added n m.tolerance (natural_nonnegative 2) (natural_nonnegative discount_one)
+            (omega (arith, ints)) power (natural_nonnegative (length m.vars + 1)) (shrunk (omega arith) k) holds)
         | inr more ↦ absurd
             (none_enough (pos 2) (pos discount_one) rest p q first added n m.tolerance (omega (arith, ints)) two_above discount_above power added_some holds)
       ]
@@ -379,14 +377,14 @@ module _ (m : Process) (valid : IsValid m) (span : ℤ) where
   discount_falls most zero =
       subst₂ (λ p q. ((pos 0 *ℤ rest +ℤ pos m.discount) *ℤ q) ≤ℤ (pos m.discount *ℤ p)) (sym (ap pos (pow-zero discount_one)))
       (sym (ap pos (pow-zero m.discount)))
-      (falls_begun rest (pos m.discount) (natural m.discount))
+      (falls_begun rest (pos m.discount) (natural_nonnegative m.discount))
   discount_falls most (suc k) =
       let one_more : pos k +ℤ pos 1 ≡ pos (suc k) = omega (arith, ints) in
       subst (λ n. ((n *ℤ rest +ℤ pos m.discount) *ℤ pos (m.discount ^ suc k)) ≤ℤ (pos m.discount *ℤ pos (discount_one ^ suc k))) one_more
       (subst₂ (λ p q. (((pos k +ℤ pos 1) *ℤ rest +ℤ pos m.discount) *ℤ q) ≤ℤ (pos m.discount *ℤ p)) (sym (ap pos (pow-suc discount_one k)))
       (sym (ap pos (pow-suc m.discount k)))
       (falls_step (pos discount_one) (pos m.discount) rest (pos (discount_one ^ k)) (pos (m.discount ^ k)) (pos k) (omega (arith, ints))
-      (natural m.discount) (natural (discount_one - m.discount)) (natural (m.discount ^ k)) (natural k) (discount_falls most k)))
+      (natural_nonnegative m.discount) (natural_nonnegative (discount_one - m.discount)) (natural_nonnegative (m.discount ^ k)) (natural_nonnegative k) (discount_falls most k)))
 
   pub some_enough : leaves_room m span ≡ true → (k : ℕ) × (is_enough m span k ≡ true)
   some_enough h =
@@ -401,7 +399,7 @@ module _ (m : Process) (valid : IsValid m) (span : ℤ) where
           k,
           le_holds _ _
               (share_step (pos 2) (pos discount_one) (pos m.discount) rest p q first (error_allowed m) (error_that_stays m span) (omega (arith, ints))
-              (natural m.discount) (natural (discount_one - m.discount)) discount_above (natural (discount_one ^ k)) (natural (m.discount ^ k)) room
+              (natural_nonnegative m.discount) (natural_nonnegative (discount_one - m.discount)) discount_above (natural_nonnegative (discount_one ^ k)) (natural_nonnegative (m.discount ^ k)) room
               (subst (λ x. ((pos 2 *ℤ pos discount_one *ℤ pos discount_one *ℤ x *ℤ rest +ℤ pos m.discount) *ℤ q) ≤ℤ (pos m.discount *ℤ p)) (sym is)
               (discount_falls (omega arith) k))),
         )

@@ -1,10 +1,10 @@
 -- One sweep over ranges in order gives the middle of its group for each.
-use Rattle.std.proofs.Common.{ℕ, ◌<◌, ◌≤◌, ◌-◌, get_or, take, drop, arith, Less, ◌+◌, ◌≡◌, Bool, true, false, ◌||◌, ℤ, pos, ◌+ℤ◌, List, [], ◌∷◌, ◌++◌, map, length, replicate, refl, ap, sym, ◌∙◌, subst, true≢false}
+use Rattle.std.proofs.Common.{ℕ, ◌<◌, ◌≤◌, ◌-◌, get_or, take, drop, arith, Less, ◌+◌, ◌≡◌, Bool, true, false, ◌||◌, ℤ, pos, ◌+ℤ◌, List, [], ◌∷◌, ◌++◌, map, length, replicate, refl, ap, sym, ◌∙◌, subst}
 use Rattle.std.specs.Prelude.{int_le, int_lt}
 use Rattle.std.specs.Int.{int_max}
 use Rattle.std.specs.Bool.{⊤, if◌then◌else◌}
 use Rattle.std.specs.List.{flat_map, list_any, AllByRecursion}
-use Rattle.std.proofs.lemmas.Bool.{or_right}
+use Rattle.std.proofs.lemmas.Bool.{or_parts, or_right}
 use Rattle.std.proofs.lemmas.List.Folds.{list_any-append}
 use Rattle.std.proofs.lemmas.List.{append-nil, append_assoc, length_push, map-append, length-map, length-append, length-replicate, drop_more, drop_all, take_all}
 use Rattle.std.proofs.Math.ListN.{get_or-map}
@@ -44,19 +44,11 @@ abbrev pub Fresh : List Range → List Range → Type 0
 Fresh ms [] = ⊤
 Fresh ms (p ∷ ps) = (list_any (is_same p) ms ≡ false) × Fresh (ms ++ p ∷ []) ps
 
-left_false : (a b : Bool) → (a || b) ≡ false → a ≡ false
-left_false true b h = h
-left_false false b h = refl
-
-right_false : (a b : Bool) → (a || b) ≡ false → b ≡ false
-right_false true b h = absurd (true≢false h)
-right_false false b h = h
-
 none_before : (f : Range → Bool) (xs ys : List Range) → list_any f (xs ++ ys) ≡ false → list_any f xs ≡ false
-none_before f xs ys h = left_false (list_any f xs) (list_any f ys) (sym (list_any-append f xs ys) ∙ h)
+none_before f xs ys h = (or_parts (list_any f xs) (list_any f ys) (sym (list_any-append f xs ys) ∙ h)).0
 
 none_after : (f : Range → Bool) (xs ys : List Range) → list_any f (xs ++ ys) ≡ false → list_any f ys ≡ false
-none_after f xs ys h = right_false (list_any f xs) (list_any f ys) (sym (list_any-append f xs ys) ∙ h)
+none_after f xs ys h = (or_parts (list_any f xs) (list_any f ys) (sym (list_any-append f xs ys) ∙ h)).1
 
 narrow : (ms ns ps : List Range) → AllByRecursion (λ q. list_any (is_same q) (ms ++ ns) ≡ false) ps → AllByRecursion (λ q. list_any (is_same q) ms ≡ false) ps
 narrow ms ns [] h = tt

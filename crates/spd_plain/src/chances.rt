@@ -1,9 +1,8 @@
 //! The probabilities of a variable's next values, read from the tables of a model.
 
-ghost use Rattle.std.specs.Prelude.{ℕ, ◌≡◌, ◌<◌, ◌≤◌, ◌+◌, ◌*◌, ◌^◌, ◌∷◌, [], length, map, drop, pos, slice_index, slice_index_or, Contains, IfOk, OnOk};
+ghost use Rattle.std.specs.Prelude.{ℕ, ◌≡◌, ◌<◌, ◌≤◌, ◌+◌, ◌*◌, ◌^◌, [], length, drop, pos, slice_index_or, Contains, IfOk, OnOk};
 ghost use Rattle.spd_scaled.specs.Scaled.{IsWithin};
-ghost use Rattle.spd_model.specs.Numbers.{numbers_below};
-ghost use Rattle.spd_model.specs.States.{sizes, states, state_count, IsState};
+ghost use Rattle.spd_model.specs.States.{sizes, states, IsState};
 ghost use Rattle.spd_model.specs.Chances.{sizes_after, sum_of};
 ghost use Rattle.spd_plain.specs.Space.{state_limit};
 ghost use Rattle.spd_plain.specs.inner.Axes.{IsSpace, IsAxis};
@@ -17,22 +16,8 @@ use spd_model::{Action, Model, State};
 use sqlite_items::Items;
 use std::alloc::{AllocError, Global};
 
-/// The probability, after `action` at `s`, that the variable `var` has the value that it has in `next`, where the variables after
-/// it have those of `next`, in units of 10^-12.
-fn chance(model: &Model, action: &Action, s: &State, var: usize, next: &State) -> i128
-    requires action { Contains model.now.actions action.now }
-    requires var { var < length model.now.vars }
-    requires state { IsState (sizes model.now) s.now }
-    requires next { IsState (sizes model.now) next.now }
-    ensures value { result ≡ chance_of model.now action.now s.now var (drop var next.now) }
-    ensures within { IsWithin (pos (10 ^ 30)) result }
-{
-    // Reading a field tells the proof what every model keeps.
-    let _vars = &model.vars;
-    model.value(&action.tables.as_slice()[var], s, next)
-}
-
-/// The same for the state at `place` of the variables from that of `axis` on.
+/// The probability, after `action` at `s`, of the value of `axis` in the state at `place` of the variables from that of `axis` on, where
+/// the variables after it have their values of that state; in units of 10^-12.
 fn chance_at(
     model: &Model,
     action: &Action,
@@ -51,7 +36,8 @@ fn chance_at(
 {
     // Reading a field tells the proof what every model keeps.
     let _vars = &model.vars;
-    chance(model, action, s, axis.var, &space.states.as_slice()[place])
+    let next = &space.states.as_slice()[place];
+    model.value(&action.tables.as_slice()[axis.var], s, next)
 }
 
 /// The sum of the probabilities of a variable's values after `action` at `s`, where the variables after it have the values of their

@@ -1,6 +1,6 @@
 //! Rounded expectations: one variable after another is summed out of a table, which shrinks in place.
 
-ghost use Rattle.std.specs.Prelude.{All, ℕ, ◌≡◌, ◌<◌, ◌*◌, ◌+◌, ◌≤◌, length, pos, slice_index_or, Contains, OnOk};
+ghost use Rattle.std.specs.Prelude.{All, ℕ, ◌≡◌, ◌<◌, ◌*◌, ◌+◌, ◌≤◌, [], length, pos, slice_index_or, Contains, IfOk, OnOk};
 ghost use Rattle.spd_scaled.specs.Scaled.{IsWithin, floor_div as floor_of, ceil_div as ceil_of};
 ghost use Rattle.spd_model.specs.States.{sizes, state_count, at, IsState};
 ghost use Rattle.spd_model.specs.Chances.{one, IsValid};
@@ -32,7 +32,9 @@ pub struct Work {
 
 impl Work {
     /// Empty buffers for tables of `count` entries.
-    pub(crate) fn new(alloc: Global, count: usize) -> Result<Work, AllocError> {
+    pub(crate) fn new(alloc: Global, count: usize) -> Result<Work, AllocError>
+        ensures { IfOk result (λ work. (work.low.items ≡ []) × (work.high.items ≡ []) × (work.chances.items ≡ [])) }
+    {
         Ok(Work {
             low: Vec::with_capacity(alloc, count)?,
             high: Vec::with_capacity(alloc, count)?,

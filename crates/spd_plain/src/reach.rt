@@ -1,6 +1,6 @@
 //! Which variables' next values a table of probabilities follows.
 
-ghost use Rattle.std.specs.Prelude.{◌≡◌, ◌<◌, [], length, map, Contains, IfOk, slice_index_or};
+ghost use Rattle.std.specs.Prelude.{◌≡◌, ◌<◌, [], Contains, IfOk};
 ghost use Rattle.spd_model.specs.Trees.{read_tree, read_diagrams};
 ghost use Rattle.spd_plain.specs.inner.Reach.{latest, reaches_after as reaches_after_of, reaches_of};
 

@@ -1,9 +1,9 @@
 //! Value iteration on plain tables.
 
-ghost use Rattle.std.specs.Prelude.{All, ◌≡◌, ◌-◌, ◌≤◌, ◌^◌, length, pos, ◌≤ℤ◌, ◌<ℤ◌, IfOk, IfErr, OnOk};
+ghost use Rattle.std.specs.Prelude.{All, ◌≡◌, ◌-◌, ◌≤◌, ◌^◌, pos, ◌≤ℤ◌, ◌<ℤ◌, IfOk, IfErr, OnOk};
 ghost use Rattle.spd_scaled.specs.Scaled.{IsWithin};
 ghost use Rattle.spd_model.specs.Chances.{IsValid};
-ghost use Rattle.spd_model.specs.States.{sizes, at, state_count};
+ghost use Rattle.spd_model.specs.States.{sizes, state_count};
 ghost use Rattle.spd_model.specs.Turns.{stops_at, error_of as error_of_residual, turn as turn_of, stop_of};
 ghost use Rattle.spd_model.specs.ResultText.{result_of};
 ghost use Rattle.spd_plain.specs.inner.Outlooks.{outlooks_of};

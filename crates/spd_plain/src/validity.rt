@@ -1,7 +1,6 @@
 //! Whether a model is valid: its probabilities sum to one, and its rewards keep their limit.
 
-ghost use Rattle.std.specs.Prelude.{◌≡◌, ◌<◌, ◌≤◌, ◌*◌, ◌^◌, length, map, find, pos, not, nat_le, unsigned_abs, Contains, option_map};
-ghost use Rattle.std.specs.Ordering.{int_eq};
+ghost use Rattle.std.specs.Prelude.{◌≡◌, ◌<◌, ◌*◌, ◌^◌, map, pos, unsigned_abs, Contains, option_map};
 ghost use Rattle.spd_scaled.specs.Scaled.{IsWithin};
 ghost use Rattle.spd_model.specs.Numbers.{total};
 ghost use Rattle.spd_model.specs.States.{sizes, states, IsState};

@@ -1,10 +1,8 @@
 -- The causes of refusals: each file has at most one, and one that is as it should be has none.
-use Rattle.std.proofs.Common.{◌≡◌, ℕ, ◌<◌, ◌≤◌, List, length, ℤ, Option, Some, None, IfSome, sym, ap, subst, ◌∙◌, arith}
+use Rattle.std.proofs.Common.{◌≡◌, ℕ, List, ℤ, sym, ap, subst, ◌∙◌, arith}
 use Rattle.std.proofs.lemmas.Option.{same_Some, none-some}
 use Rattle.spd_model.specs.Process.{Process}
-use Rattle.spd_model.specs.States.{sizes, state_count}
 use Rattle.spd_model.specs.Chances.{IsValid, Sum, Reward}
-use Rattle.spd_plain.specs.Space.{state_limit, first_large_product}
 use Rattle.spd_reader.proofs.CallerLemmas.{one_model, not_refused, one_refusal}
 use Rattle.spd_solver.specs.declared.status.Status.{Status}
 use Rattle.spd_solver.specs.declared.status.Status.TheVariants as S

@@ -14,17 +14,15 @@ use Rattle.spd_model.specs.Turns.{stop_of}
 use Rattle.spd_model.specs.ResultText.{Iterate, text_of}
 use Rattle.spd_frozen.specs.Told.{told}
 use Rattle.spd_syntax.specs.declared.unread.Unread.{Unread}
-use Rattle.spd_syntax.specs.declared.unread.Unread.TheVariants as Unread
 use Rattle.spd_reader.specs.Reading.{IsRead, TellsRefusal as TellsFault}
 use Rattle.spd_solver.specs.declared.file.Unreadable.{Unreadable}
-use Rattle.spd_solver.specs.declared.file.Unreadable.TheVariants as Unreadable
 use Rattle.spd_solver.specs.declared.solving.Solution.{Solution}
 use Rattle.spd_solver.specs.declared.solving.Unsolved.{Unsolved}
 use Rattle.spd_solver.specs.declared.status.Status.{Status}
 use Rattle.spd_solver.specs.declared.status.Status.TheVariants as S
 use Rattle.spd_solver.specs.Command.{Way, Command, solving, AskFor, OnCommand, IsUsage}
 use Rattle.spd_solver.specs.Kind.{Kind, whole, refusal, kind_of}
-use Rattle.spd_solver.specs.Run.{Ends, Refuses, HoldsRefused, HoldsAccepted, Seen, ReadsCalmly, IsUnwritten, Means, Completes, TellsRefusal}
+use Rattle.spd_solver.specs.Run.{Ends, Refuses, HoldsRefused, Seen, ReadsCalmly, IsUnwritten, Means, Completes, TellsRefusal}
 use Rattle.spd_solver.specs.Solve.{residual, file_limit, IsFileOf, TellsStop, RefusesFile}
 use Rattle.spd_solver.specs.inner.Stages.{IsSolution, IsUnsolved, FailsToRead, Asks, AskWrongly, Answers, ending, finished_status, unreadable_status, unread_status, unsolved_status}
 use Rattle.spd_solver.proofs.Causes.{file_once, file_right}
@@ -47,6 +45,10 @@ tells_stop : (m : Process) (options : Options) (why : Why) (r : ℤ) → why ≡
     → TellsStop m options (elim why [ Why.Done ↦ S.Done | Why.Limit ↦ S.TurnLimit r ])
 tells_stop m options Why.Done r why is = sym why
 tells_stop m options Why.Limit r why is = (sym why, is)
+
+-- a run that is done ends so
+done_status : (why : Why) (r : ℤ) → why ≡ Why.Done → elim why [ Why.Done ↦ S.Done | Why.Limit ↦ S.TurnLimit r ] ≡ S.Done
+done_status why r is = ap (λ (w : Why). elim w [ Why.Done ↦ S.Done | Why.Limit ↦ S.TurnLimit r ]) is
 
 -- a run that was finished ends with its whole text
 finished_whole : (why : Why) (r : ℤ) → kind_of (elim why [ Why.Done ↦ S.Done | Why.Limit ↦ S.TurnLimit r ]) ≡ whole
@@ -135,6 +137,7 @@ module _ (way : Way) (file : List ℕ) (options : Options) (before now : Seen) w
             stop = tells_stop m options x.why x.iterate.residual.r h.why (ap (λ (i : Iterate). i.residual) h.iterate);
             written = (λ i. text_of (named i) m (h.why i) (h.iterate i));
             near_optimal = h.near_optimal;
+            enough = λ k enough within. done_status x.why x.iterate.residual.r (h.enough k enough within);
           },
         )
 

@@ -1,6 +1,7 @@
 -- From what value iteration on tables comes to, to the solution of a process and to why it has none.
-use Rattle.std.proofs.Common.{◌≡◌, ℕ, ◌<◌, List, length, All, pos, sym, ap, subst, ◌∙◌}
+use Rattle.std.proofs.Common.{◌≡◌, ℕ, ◌<◌, ◌≤◌, true, List, length, All, pos, sym, ap, subst, ◌∙◌}
 use Rattle.spd_scaled.specs.Scaled.{IsWithin}
+use Rattle.spd_model.specs.declared.Why.TheVariants as Why
 use Rattle.spd_model.specs.declared.options.Options.{Options}
 use Rattle.spd_model.specs.Process.{Process}
 use Rattle.spd_model.specs.States.{sizes, IsState}
@@ -9,6 +10,7 @@ use Rattle.spd_model.specs.Turns.{turn, stop_of, stop_value, residual_of, value_
 use Rattle.spd_model.specs.ResultText.{result_of}
 use Rattle.spd_model.proofs.CallerLemmas.StateOrder.{length-IsState, length-sizes}
 use Rattle.spd_bellman.specs.Bound.{IsNearOptimal}
+use Rattle.spd_bellman.specs.TurnBound.{is_enough}
 use Rattle.spd_plain.specs.declared.Plain.{Plain}
 use Rattle.spd_plain.specs.Plain.{plain_of, told_of}
 use Rattle.spd_frozen.specs.declared.iterate.Iterate.{Iterate}
@@ -31,12 +33,15 @@ module _ (m : Process) (options : Options) (p : Plain) (is : p ≡ plain_of m op
       subst (λ (q : Plain). q.action < length m.actions) (sym is) (place_within m w some (residual_of m w))
 
   pub is_solution : (x : Iterate) → IsValid m → told x ≡ told_of m p → told_of m p ≡ result_of m options.turns options.span
-      → IsNearOptimal m (value m options) → FitsModel m x → HasFewStates m → IsSolution m options (record { iterate = x; why = p.why })
-  is_solution x valid tells result near fits few = record {
+      → IsNearOptimal m (value m options)
+      → ((k : ℕ) → is_enough m options.span k ≡ true → k ≤ options.turns → (stop_of m options.turns options.span).why ≡ Why.Done)
+      → FitsModel m x → HasFewStates m → IsSolution m options (record { iterate = x; why = p.why })
+  is_solution x valid tells result near done fits few = record {
     valid = valid;
     why = ap (λ (q : Plain). q.why) is;
     iterate = tells ∙ result;
     near_optimal = near;
+    enough = λ k enough within. ap (λ (q : Plain). q.why) is ∙ done k enough within;
     fits = fits;
     few = few;
   }

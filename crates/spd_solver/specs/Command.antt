@@ -2,7 +2,6 @@
 use Rattle.std.specs.Prelude.{ℕ, ◌≡◌, ◌⊎◌, List, Option, Some, None}
 use Rattle.spd_model.specs.declared.options.Options.{Options}
 use Rattle.spd_words.specs.declared.command.Command.{Command as Said}
-use Rattle.spd_words.specs.declared.command.Command.TheVariants as Said
 use Rattle.spd_words.specs.Commands.{IsCommand, IsUsage as IsNoCommand}
 use Rattle.spd_words.specs.Standing.{text_at}
 

@@ -3,11 +3,8 @@ use Rattle.std.specs.Prelude.{ℕ, List, [], ◌∷◌, ◌++◌, codes, decimal
 use Rattle.std.specs.List.{concat}
 use Rattle.spd_scaled.specs.Units.{units_text}
 use Rattle.spd_syntax.specs.declared.refusal.Refusal.{Refusal}
-use Rattle.spd_syntax.specs.declared.refusal.Refusal.TheVariants as Refusal
 use Rattle.spd_syntax.specs.declared.refusal.Want.{Want}
-use Rattle.spd_syntax.specs.declared.refusal.Want.TheVariants as Want
 use Rattle.spd_syntax.specs.declared.refusal.What.{What}
-use Rattle.spd_syntax.specs.declared.refusal.What.TheVariants as What
 use Rattle.spd_solver.specs.declared.status.Status.{Status}
 use Rattle.spd_solver.specs.declared.status.Status.TheVariants.{Done, Usage, OpenFault, ReadFault, TooLong, Refused, TooManyStates, Sum, Range, TurnLimit, WriteFault, Memory}
 

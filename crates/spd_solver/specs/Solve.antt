@@ -1,5 +1,5 @@
 -- What solving the process of a model file means, and why it is refused.
-use Rattle.std.specs.Prelude.{ℕ, ◌<◌, ◌≤◌, ◌≡◌, List, length, ℤ, Some, None}
+use Rattle.std.specs.Prelude.{ℕ, ◌<◌, ◌≤◌, ◌≡◌, true, List, length, ℤ, Some, None}
 use Rattle.std.specs.List.{join_with_byte}
 use Rattle.sha2.specs.Sha256.{sha256}
 use Rattle.spd_model.specs.declared.Why.TheVariants as Why
@@ -10,6 +10,7 @@ use Rattle.spd_model.specs.Turns.{residual_of, stop_of, stop_value}
 use Rattle.spd_model.specs.ResultText.{action_name, var_name, state_words, result_text}
 use Rattle.spd_plain.specs.Space.{state_limit, first_large_product}
 use Rattle.spd_bellman.specs.Bound.{IsNearOptimal}
+use Rattle.spd_bellman.specs.TurnBound.{is_enough}
 use Rattle.spd_model.specs.declared.options.Options.{Options}
 use Rattle.spd_solver.specs.declared.status.Status.{Status}
 use Rattle.spd_reader.specs.Reading.{IsRead, IsRefused}
@@ -41,7 +42,7 @@ TellsStop m options _ = ⊥
 
 -- The process of a file is solved: it is valid, the status tells why its run stopped, the text is that of the result, and the value
 -- and the policy in that text are optimal up to the residual over one minus the discount: for every state, course of action and
--- number of steps.
+-- number of steps. Where a turn up to the turn limit is enough, the run is done.
 pub record IsSolved (bytes : List ℕ) (options : Options) (status : Status) (text : List ℕ) : Type 0 where
   pub process : Process
   pub file : IsFileOf bytes process
@@ -49,6 +50,7 @@ pub record IsSolved (bytes : List ℕ) (options : Options) (status : Status) (te
   pub stop : TellsStop process options status
   pub written : text ≡ result_text (sha256 bytes) process options.turns options.span
   pub near_optimal : IsNearOptimal process (value process options)
+  pub enough : (k : ℕ) → is_enough process options.span k ≡ true → k ≤ options.turns → status ≡ Done
 
 -- ---- what is refused
 

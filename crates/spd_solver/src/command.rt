@@ -1,5 +1,5 @@
 //! What the words of the command ask for.
-ghost use Rattle.std.specs.Prelude.{◌≡◌, ℕ, IfOk, IfErr};
+ghost use Rattle.std.specs.Prelude.{IfOk, IfErr};
 ghost use Rattle.spd_model.specs.Options.{AreOptions};
 ghost use Rattle.spd_solver.specs.inner.Stages.{Asks, AskWrongly};
 

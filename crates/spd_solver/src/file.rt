@@ -1,5 +1,5 @@
 //! Reading a whole file of a place.
-ghost use Rattle.std.specs.Prelude.{◌≡◌, ◌≢◌, ℕ, ◌≤◌, List, length, None, Some, IfOk, OnOk, IfErr, IfSome};
+ghost use Rattle.std.specs.Prelude.{◌≡◌, ℕ, ◌≤◌, List, length, None, Some, IfOk, OnOk, IfErr, IfSome};
 ghost use Rattle.spd_edge.specs.Counts.{NoneFalls};
 ghost use Rattle.spd_edge.specs.Names.{SameButFor};
 ghost use Rattle.spd_edge.specs.declared.outside.Stage.TheVariants as Stage;

@@ -1,13 +1,14 @@
 //! The number and the message of a status.
 ghost use Rattle.std.specs.Prelude.{◌≡◌};
 ghost use Rattle.spd_text.specs.Writing.{Wrote, Counted};
-ghost use Rattle.spd_solver.specs.Message.{status_number, refusal_message, sum_message, range_message, message_of};
+ghost use Rattle.spd_solver.specs.Message.{status_number, message_of};
 
 use crate::pieces::write_pieces;
 use crate::refusals::{place_of, words_of};
 use crate::status::Status;
 use itoa::Buffer;
 use spd_edge::{Failed, Sink};
+use spd_model::Text;
 use spd_scaled::put_units;
 use spd_syntax::Refusal;
 
@@ -32,7 +33,7 @@ pub fn number(status: &Status) -> u8
 
 /// Writes the message of a file that is refused.
 fn write_refusal<K: Sink>(k: &mut K, refusal: Refusal) -> Result<(), Failed>
-    ensures text { Wrote (K.taken k.old) (refusal_message refusal) result (K.taken k.new) }
+    ensures text { Wrote (K.taken k.old) (message_of (Status.Refused refusal)) result (K.taken k.new) }
     ensures count { Counted (K.faults k.old) result (K.faults k.new) }
     ensures named { K.name k.new ≡ K.name k.old }
 {
@@ -52,56 +53,99 @@ fn write_refusal<K: Sink>(k: &mut K, refusal: Refusal) -> Result<(), Failed>
     )
 }
 
-/// Writes the message of a sum that isn't one, by the texts of its parts.
-fn write_sum<'a, K: Sink>(
-    k: &mut K,
-    action: &'a [u8],
-    var: &'a [u8],
-    state: &'a [u8],
-    sum: &'a [u8],
-) -> Result<(), Failed>
-    ensures text { Wrote (K.taken k.old) (sum_message action.now var.now state.now sum.now) result (K.taken k.new) }
+/// Writes the message of words that can't be run, by the number of the first word that can't stand.
+fn write_usage<K: Sink>(k: &mut K, word: usize) -> Result<(), Failed>
+    ensures text { Wrote (K.taken k.old) (message_of (Status.Usage word)) result (K.taken k.new) }
     ensures count { Counted (K.faults k.old) result (K.faults k.new) }
     ensures named { K.name k.new ≡ K.name k.old }
 {
+    let mut digits = Buffer::new();
+    let number = digits.format(word);
+    write_pieces(k, &[b"usage: word ", number.as_bytes(), b"\n"])
+}
+
+/// Writes the message of a process with too many states, by the product that passes their limit.
+fn write_states<K: Sink>(k: &mut K, product: u32) -> Result<(), Failed>
+    ensures text { Wrote (K.taken k.old) (message_of (Status.TooManyStates product)) result (K.taken k.new) }
+    ensures count { Counted (K.faults k.old) result (K.faults k.new) }
+    ensures named { K.name k.new ≡ K.name k.old }
+{
+    let mut digits = Buffer::new();
+    let number = digits.format(product);
+    write_pieces(
+        k,
+        &[b"too many states: ", number.as_bytes(), b" or more", b"\n"],
+    )
+}
+
+/// Writes the message of a sum that isn't one. The sum is in units of 10^-12.
+fn write_sum<'a, K: Sink>(
+    k: &mut K,
+    action: &'a Text,
+    var: &'a Text,
+    state: &'a Text,
+    sum: i128,
+) -> Result<(), Failed>
+    ensures text { Wrote (K.taken k.old) (message_of (Status.Sum action.now var.now state.now sum)) result (K.taken k.new) }
+    ensures count { Counted (K.faults k.old) result (K.faults k.new) }
+    ensures named { K.name k.new ≡ K.name k.old }
+{
+    let mut digits = [0; 64];
+    let len = put_units(sum, 12, &mut digits);
     write_pieces(
         k,
         &[
             b"sum of action ",
-            action,
+            action.as_slice(),
             b", variable ",
-            var,
+            var.as_slice(),
             b" at ",
-            state,
+            state.as_slice(),
             b" is ",
-            sum,
+            &digits[..len],
             b"\n",
         ],
     )
 }
 
-/// Writes the message of a reward that passes its limit, by the texts of its parts.
+/// Writes the message of a reward that passes its limit. The reward is in units of 10^-9.
 fn write_range<'a, K: Sink>(
     k: &mut K,
-    action: &'a [u8],
-    state: &'a [u8],
-    value: &'a [u8],
+    action: &'a Text,
+    state: &'a Text,
+    value: i128,
 ) -> Result<(), Failed>
-    ensures text { Wrote (K.taken k.old) (range_message action.now state.now value.now) result (K.taken k.new) }
+    ensures text { Wrote (K.taken k.old) (message_of (Status.Range action.now state.now value)) result (K.taken k.new) }
     ensures count { Counted (K.faults k.old) result (K.faults k.new) }
     ensures named { K.name k.new ≡ K.name k.old }
 {
+    let mut digits = [0; 64];
+    let len = put_units(value, 9, &mut digits);
     write_pieces(
         k,
         &[
             b"reward of action ",
-            action,
+            action.as_slice(),
             b" at ",
-            state,
+            state.as_slice(),
             b" is ",
-            value,
+            &digits[..len],
             b"\n",
         ],
+    )
+}
+
+/// Writes the message of a run that its turn limit ended. The residual is in units of 10^-9.
+fn write_turn_limit<K: Sink>(k: &mut K, residual: i128) -> Result<(), Failed>
+    ensures text { Wrote (K.taken k.old) (message_of (Status.TurnLimit residual)) result (K.taken k.new) }
+    ensures count { Counted (K.faults k.old) result (K.faults k.new) }
+    ensures named { K.name k.new ≡ K.name k.old }
+{
+    let mut digits = [0; 64];
+    let len = put_units(residual, 9, &mut digits);
+    write_pieces(
+        k,
+        &[b"turn limit reached, residual ", &digits[..len], b"\n"],
     )
 }
 
@@ -117,56 +161,24 @@ pub fn write_message<K: Sink>(status: &Status, k: &mut K) -> Result<(), Failed>
 {
     match status {
         Status::Done => Ok(()),
-        Status::Usage { word } => {
-            let mut digits = Buffer::new();
-            let word = digits.format(*word);
-            write_pieces(k, &[b"usage: word ", word.as_bytes(), b"\n"])
-        }
+        Status::Usage { word } => write_usage(k, *word),
         Status::OpenFault { name } => write_pieces(k, &[b"cannot open ", name.as_slice(), b"\n"]),
         Status::ReadFault { name } => write_pieces(k, &[b"cannot read ", name.as_slice(), b"\n"]),
         Status::TooLong { name } => write_pieces(k, &[name.as_slice(), b" is too long", b"\n"]),
         Status::Refused { refusal } => write_refusal(k, *refusal),
-        Status::TooManyStates { product } => {
-            let mut digits = Buffer::new();
-            let product = digits.format(*product);
-            write_pieces(
-                k,
-                &[b"too many states: ", product.as_bytes(), b" or more", b"\n"],
-            )
-        }
+        Status::TooManyStates { product } => write_states(k, *product),
         Status::Sum {
             action,
             var,
             state,
             sum,
-        } => {
-            let mut digits = [0; 64];
-            let len = put_units(*sum, 12, &mut digits);
-            write_sum(
-                k,
-                action.as_slice(),
-                var.as_slice(),
-                state.as_slice(),
-                &digits[..len],
-            )
-        }
+        } => write_sum(k, action, var, state, *sum),
         Status::Range {
             action,
             state,
             value,
-        } => {
-            let mut digits = [0; 64];
-            let len = put_units(*value, 9, &mut digits);
-            write_range(k, action.as_slice(), state.as_slice(), &digits[..len])
-        }
-        Status::TurnLimit { residual } => {
-            let mut digits = [0; 64];
-            let len = put_units(*residual, 9, &mut digits);
-            write_pieces(
-                k,
-                &[b"turn limit reached, residual ", &digits[..len], b"\n"],
-            )
-        }
+        } => write_range(k, action, state, *value),
+        Status::TurnLimit { residual } => write_turn_limit(k, *residual),
         Status::WriteFault => write_pieces(k, &[b"cannot write", b"\n"]),
         Status::Memory => write_pieces(k, &[b"out of memory", b"\n"]),
     }

@@ -87,7 +87,8 @@ fn solve<P: Place, K: Sink>(
 ///
 /// - `headline`: a command that ends with a whole text (`Done`, `TurnLimit`) wrote exactly the text that the definitions give of its file
 ///   and options, which is that of a valid process, and nothing else; and the value and policy in it are optimal up to the residual over
-///   one minus the discount, for every state, course of action and number of steps.
+///   one minus the discount, for every state, course of action and number of steps. Where a turn up to the turn limit is enough, as the
+///   definitions tell after turn 0, it ends with `Done`.
 /// - `means`: what each kind of end says: where a text was written, whole or in part, and where the file is refused, the file was opened
 ///   and closed again, and no read of it failed; a text that was cut off is a front of that text, and the output's count of faults rose;
 ///   what is refused has its cause in the file, at the first fault; a file that couldn't be opened or read has its count of faults risen,

@@ -7,7 +7,7 @@ ghost use Rattle.spd_solver.specs.declared.solving.Unsolved.TheVariants as Unsol
 
 use crate::states::state_text;
 use crate::tables::iterate_of;
-use spd_bellman::{law_bound, law_bounded};
+use spd_bellman::{law_bound, law_bounded, law_turns};
 use spd_frozen::Iterate;
 use spd_model::{Model, Options, Text, Why};
 use spd_plain::{PlainFault, plain_solve};
@@ -97,9 +97,10 @@ pub(crate) fn solve_model(
 {
     // Reading a field tells the proof what every model keeps.
     let _vars = &model.vars;
-    // The value of each turn is within its limit, and the one at which the run stops is near optimal.
+    // The value of each turn is within its limit, the one at which the run stops is near optimal, and some turn may be enough.
     law_bounded();
     law_bound();
+    law_turns();
     let plain = match plain_solve(alloc, model, options.turns, options.span) {
         Ok(plain) => plain,
         Err(fault) => return Err(named(alloc, model, fault)?),

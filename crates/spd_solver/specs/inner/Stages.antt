@@ -1,5 +1,5 @@
 -- The stages of a command: what each gives, why it fails, and the status of each failure.
-use Rattle.std.specs.Prelude.{ℕ, zero, suc, ◌<◌, ◌≡◌, List, [], ◌++◌, length, codes, Some, IfSome, Result, Ok, Err}
+use Rattle.std.specs.Prelude.{ℕ, zero, suc, ◌<◌, ◌≤◌, ◌≡◌, true, List, [], ◌++◌, length, codes, Some, IfSome, Result, Ok, Err}
 use Rattle.spd_edge.specs.Counts.{Rose}
 use Rattle.spd_edge.specs.Direction.{Direction}
 use Rattle.spd_edge.specs.declared.outside.Stage.TheVariants as Stage
@@ -10,6 +10,7 @@ use Rattle.spd_model.specs.Chances.{IsValid}
 use Rattle.spd_model.specs.Turns.{stop_of}
 use Rattle.spd_model.specs.ResultText.{action_name, var_name, value_name, result_of}
 use Rattle.spd_bellman.specs.Bound.{IsNearOptimal}
+use Rattle.spd_bellman.specs.TurnBound.{is_enough}
 use Rattle.spd_plain.specs.declared.solve.PlainFault.{PlainFault}
 use Rattle.spd_plain.specs.declared.solve.PlainFault.TheVariants as Fault
 use Rattle.spd_frozen.specs.Fits.{FitsModel}
@@ -18,7 +19,6 @@ use Rattle.spd_solver.specs.declared.solving.Solution.{Solution}
 use Rattle.spd_model.specs.declared.options.Options.{Options}
 use Rattle.spd_solver.specs.declared.file.Unreadable.{Unreadable}
 use Rattle.spd_syntax.specs.declared.unread.Unread.{Unread}
-use Rattle.spd_syntax.specs.declared.unread.Unread.TheVariants as Unread
 use Rattle.spd_solver.specs.declared.solving.Unsolved.{Unsolved}
 use Rattle.spd_solver.specs.declared.status.Status.{Status}
 use Rattle.spd_solver.specs.Command.{Way, Command, solving, AskFor, IsUsage}
@@ -65,12 +65,14 @@ abbrev pub unread_status : Unread → Status
 unread_status (Unread.Refused refusal) = Status.Refused refusal
 unread_status Unread.Memory = Status.Memory
 
--- What the run of a process comes to: it is told of the turn at which the run stops, and the value there is near optimal.
+-- What the run of a process comes to: it is told of the turn at which the run stops, the value there is near optimal, and the run is
+-- done where a turn up to the turn limit is enough.
 pub record IsSolution (m : Process) (options : Options) (x : Solution) : Type 0 where
   pub valid : IsValid m
   pub why : x.why ≡ (stop_of m options.turns options.span).why
   pub iterate : told x.iterate ≡ result_of m options.turns options.span
   pub near_optimal : IsNearOptimal m (value m options)
+  pub enough : (k : ℕ) → is_enough m options.span k ≡ true → k ≤ options.turns → x.why ≡ Why.Done
   pub fits : FitsModel m x.iterate
   pub few : HasFewStates m
 

@@ -4,7 +4,7 @@ use Rattle.std.proofs.lemmas.Result.{err_from_is_err_and}
 use Rattle.sha2.specs.Sha256.{sha256}
 use Rattle.spd_edge.specs.declared.outside.Stage.TheVariants as Stage
 use Rattle.spd_solver.specs.Command.{solving}
-use Rattle.spd_solver.specs.Run.{Seen, seen}
+use Rattle.spd_solver.specs.Run.{seen}
 use Rattle.spd_solver.specs.inner.Stages.{Answers}
 use Rattle.spd_solver.specs.declared.status.Status.{Status}
 use Rattle.spd_solver.proofs.RunLaws.{was_read, unreadable_answers, unread_answers, unsolved_answers, cut_answers, whole_answers}

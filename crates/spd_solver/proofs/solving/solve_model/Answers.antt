@@ -44,4 +44,5 @@ returns-clause-solved c =
     let result = subst (λ (span : ℤ). told_of m plain ≡ result_of m options.turns span) (to_z-of_z w128 options.span fits) c.in-Ok.ensures.told in
     let some = subst (λ (m : Process). 0 < length m.actions) c.model.view_is c.model.invariant.some_actions in
     is_solution m options plain solved c.in_ok-iterate_of.field-0 c.in-Ok.ensures.valid c.in_ok-iterate_of.ensures.told result
-    (c.law_bound.ensures.value m c.in-Ok.ensures.valid some (value m options)) c.in_ok-iterate_of.ensures.fits c.in-Ok.ensures.cause.0
+    (c.law_bound.ensures.value m c.in-Ok.ensures.valid some (value m options))
+    (λ k. c.law_turns.ensures.done m c.in-Ok.ensures.valid options.span k options.turns) c.in_ok-iterate_of.ensures.fits c.in-Ok.ensures.cause.0
