@@ -9,7 +9,7 @@ use Rattle.std.proofs.lemmas.List.{take_at, drop_at, drop-drop}
 use Rattle.std.proofs.lemmas.Option.{slice_get-get_or}
 use Rattle.spd_model.specs.declared.process.Var.{Var}
 use Rattle.spd_model.specs.Lawful.{HasValues}
-use Rattle.spd_model.specs.Names.{is_name, is_value_name, has_name_form, has_value_form}
+use Rattle.spd_model.specs.Names.{is_name, has_name_form, has_value_form}
 use Rattle.spd_query.specs.Lines.{is_blank, is_equals, words_of, sides_of, numbers_of, var_number, value_number}
 use Rattle.spd_query.specs.inner.Places.{AreVars, IsAtWord, ends_word, BeginsWithValue, BeginsWithPair}
 use Rattle.spd_query.proofs.WordLaws.{words-first, sides-both}
