@@ -108,11 +108,14 @@ impl<T: Drop + Numbered> Writer<T> {
         result
     }
 
-    /// Ends the board. It waits for readers that are inside.
-    pub fn close<R: Wait>(self, rt: &R) {
+    /// Ends the board, and returns the item that was published last. It waits for readers that are inside, and each of them goes on with the
+    /// item that it answered last.
+    pub fn close<R: Wait>(self, rt: &R) -> Arc<T>
+        ensures { EndsIn self.published (arc_value result) }
+    {
         let Writer { end, refused: _ } = self;
-        if let Some(end) = end {
-            drop(end.take(rt));
-        }
+        let Some(end) = end else { unreachable!() };
+        let Shown { item } = Box::into_inner(end.take(rt));
+        item
     }
 }

@@ -62,26 +62,6 @@ abbrev sides_at : List ℕ → ℕ → Option (List ℕ × List ℕ)
 sides_at word k =
     if not (is_empty (take k word)) && (not (is_empty (drop (k + 1) word)) && not (list_any is_equals (drop (k + 1) word))) then Some (take k word, drop (k + 1) word) else None
 
-and-false : (a b : Bool) → b ≡ false → a && b ≡ false
-and-false true b h = h
-and-false false b h = refl
-
-choice-false : {X : Type 0} (b : Bool) (x y : X) → b ≡ false → (if b then x else y) ≡ y
-choice-false true x y h = absurd (cc)
-choice-false false x y h = refl
-
--- nothing stands before it
-pub sides-no_name : (word : List ℕ) → position_or_len is_equals word ≡ 0 → sides_of word ≡ None
-sides-no_name word h = ap (sides_at word) h
-
--- nothing stands behind it
-pub sides-no_value : (word : List ℕ) → length word ≤ position_or_len is_equals word + 1 → sides_of word ≡ None
-sides-no_value word h =
-    let n = position_or_len is_equals word in
-    let none : drop (n + 1) word ≡ [] = drop_all (n + 1) word h in
-    let closed : not (is_empty (drop (n + 1) word)) && not (list_any is_equals (drop (n + 1) word)) ≡ false = ap (λ (l : List ℕ). not (is_empty l) && not (list_any is_equals l)) none in
-    choice-false _ _ _ (and-false (not (is_empty (take n word))) _ closed)
-
 any-first : (p : ℕ → Bool) (xs : List ℕ) → position_or_len p xs < length xs → list_any p xs ≡ true
 any-first p [] h = absurd (omega arith)
 any-first p (x ∷ xs) h = by_head (p x) refl (λ within. any-first p xs within)

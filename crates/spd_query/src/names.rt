@@ -1,19 +1,16 @@
 //! The numbers of variables and values by their names.
 
-ghost use Rattle.std.specs.Prelude.{◌≡◌, ◌<◌, ◌≤◌, true, length, map, Some, All};
-ghost use Rattle.spd_model.specs.declared.process.Var.{Var as Variable};
-ghost use Rattle.spd_model.specs.Lawful.{AreDistinct};
+ghost use Rattle.std.specs.Prelude.{◌≡◌, ◌<◌, ◌≤◌, length, IfSome};
 ghost use Rattle.spd_query.specs.Lines.{var_number, value_number, numbers_of};
+ghost use Rattle.spd_query.specs.inner.Places.{AreVars, BeginsWithPair};
 
+use crate::pair::pair_at;
 use spd_model::{Name, Var};
 
 /// A table of names has so many slots: more than twice the variables of a model.
 const SLOTS: usize = 256;
 
-/// So many variables are searched one after another.
-const FEW: usize = 8;
-
-/// Where a name of a variable is looked for first. What it says is only tried, and never taken for true.
+/// Which variable a word may name. What it says is only tried, and never taken for true.
 #[derive(Drop)]
 pub(crate) struct Hints {
     /// The variable after the one that was found last: most clients name the variables in order.
@@ -23,23 +20,18 @@ pub(crate) struct Hints {
     filled: bool,
 }
 
-/// The slot at which a name is looked for (FNV-1a).
+/// The slot at which a name is looked for: the low byte of its hash by FNV-1a. A name ends at an `=`.
 fn first_slot(name: &[u8]) -> usize
     ensures { result < 256 }
 {
     let mut hash = 0x811c_9dc5u32;
     for byte in name {
+        if *byte == b'=' {
+            break;
+        }
         hash = (hash ^ u32::from(*byte)).wrapping_mul(0x0100_0193);
     }
-    (hash >> 24) as usize
-}
-
-/// Whether the variable of this number has this name.
-fn is_at(vars: &[Var], at: usize, name: &[u8]) -> bool
-    requires { AreDistinct (map (λ (x : Variable). x.name) vars.now) }
-    ensures { result ≡ true → var_number vars.now name.now ≡ Some at }
-{
-    at < vars.len() && vars[at].name.as_slice() == name
+    (hash % 256) as usize
 }
 
 impl Hints {
@@ -76,56 +68,38 @@ impl Hints {
         self.filled = true;
     }
 
-    /// The number of the variable that has this name by the table, or a number past all variables.
-    fn guess(&mut self, vars: &[Var], name: &[u8]) -> usize
-        requires few { length vars.now ≤ 100 }
-        requires distinct { AreDistinct (map (λ (x : Variable). x.name) vars.now) }
+    /// The pair that the table finds.
+    fn listed<'a>(&mut self, vars: &[Var], line: &'a [u8]) -> Option<(usize, u8, &'a [u8])>
+        requires { AreVars vars.now }
+        ensures { IfSome result (λ r. BeginsWithPair vars.now line.now (r.0, r.1) r.2.now) }
     {
         self.fill(vars);
-        let first = first_slot(name);
+        let first = first_slot(line);
         for step in 0..SLOTS {
             let number = self.slots[(first + step) % SLOTS] as usize;
             if number == 0 {
-                return vars.len();
+                return None;
             }
-            if is_at(vars, number - 1, name) {
-                return number - 1;
+            if let Some((value, behind)) = pair_at(vars, number - 1, line) {
+                return Some((number - 1, value, behind));
             }
         }
-        vars.len()
+        None
     }
 
-    /// The number of the variable of this name.
-    fn var_number(&mut self, vars: &[Var], name: &[u8]) -> Option<usize>
-        requires few { length vars.now ≤ 100 }
-        requires distinct { AreDistinct (map (λ (x : Variable). x.name) vars.now) }
-        ensures { result ≡ var_number vars.now name.now }
+    /// The variable and the value that the first word of a line names, and what stands behind the word, where the hints lead to them.
+    pub(crate) fn pair<'a>(&mut self, vars: &[Var], line: &'a [u8]) -> Option<(usize, u8, &'a [u8])>
+        requires { AreVars vars.now }
+        ensures { IfSome result (λ r. BeginsWithPair vars.now line.now (r.0, r.1) r.2.now) }
     {
         let next = self.next;
-        if is_at(vars, next, name) {
+        if let Some((value, behind)) = pair_at(vars, next, line) {
             self.next = next.saturating_add(1);
-            return Some(next);
+            return Some((next, value, behind));
         }
-        if vars.len() > FEW {
-            let guess = self.guess(vars, name);
-            if is_at(vars, guess, name) {
-                self.next = guess.saturating_add(1);
-                return Some(guess);
-            }
-        }
-        vars.iter().position(|var| var.name.as_slice() == name)
-    }
-
-    /// The numbers of the variable and of its value that these names name.
-    pub(crate) fn numbers(&mut self, vars: &[Var], name: &[u8], value: &[u8]) -> Option<(usize, u8)>
-        requires few { length vars.now ≤ 100 }
-        requires distinct { AreDistinct (map (λ (x : Variable). x.name) vars.now) }
-        requires few_values { All (λ (x : Variable). length x.values ≤ 64) vars.now }
-        ensures { result ≡ numbers_of vars.now (name.now, value.now) }
-    {
-        let var = self.var_number(vars, name)?;
-        let value = value_number(vars[var].values.as_slice(), value)?;
-        Some((var, value as u8))
+        let (number, value, behind) = self.listed(vars, line)?;
+        self.next = number.saturating_add(1);
+        Some((number, value, behind))
     }
 }
 
@@ -134,4 +108,21 @@ fn value_number(values: &[Name], name: &[u8]) -> Option<usize>
     ensures { result ≡ value_number values.now name.now }
 {
     values.iter().position(|value| value.as_slice() == name)
+}
+
+/// The number of the variable of this name.
+fn var_number(vars: &[Var], name: &[u8]) -> Option<usize>
+    ensures { result ≡ var_number vars.now name.now }
+{
+    vars.iter().position(|var| var.name.as_slice() == name)
+}
+
+/// The numbers of the variable and of its value that these names name.
+pub(crate) fn numbers(vars: &[Var], name: &[u8], value: &[u8]) -> Option<(usize, u8)>
+    requires { AreVars vars.now }
+    ensures { result ≡ numbers_of vars.now (name.now, value.now) }
+{
+    let var = var_number(vars, name)?;
+    let value = value_number(vars[var].values.as_slice(), value)?;
+    Some((var, value as u8))
 }

@@ -1,40 +1,25 @@
 //! Reading a line.
 
-ghost use Rattle.std.specs.Prelude.{◌≡◌, ◌≤◌, length, map, Ok, Err, All, IfOk, MatchResult};
+ghost use Rattle.std.specs.Prelude.{◌≡◌, ◌<◌, ◌≤◌, length, map, Ok, Err, IfOk, MatchResult};
 ghost use Rattle.spd_model.specs.declared.process.Var.{Var as Variable};
-ghost use Rattle.spd_model.specs.Lawful.{AreDistinct};
 ghost use Rattle.spd_model.specs.States.{sizes, IsState};
-ghost use Rattle.spd_query.specs.inner.Places.{FitsQuery};
-ghost use Rattle.spd_query.specs.Lines.{words_of, with_word, with_words, gathered, state_of_words, query_of};
+ghost use Rattle.spd_query.specs.inner.Places.{AreVars, FitsQuery, IsAtWord};
+ghost use Rattle.spd_query.specs.Lines.{words_of, with_pair, with_word, with_words, gathered, state_of_words, query_of};
 
 use crate::line::{Query, Reason};
-use crate::names::Hints;
+use crate::names::{Hints, numbers};
 use crate::pair::sides;
-use crate::words::{all_may_stand, split_word};
+use crate::words::{all_may_stand, first_word, split_word, without_blanks};
 use spd_model::{Model, State, Var};
 
 /// A line has at most so many bytes.
 const MOST: usize = 4096;
 
-/// Takes the value that a word gives a variable.
-fn take_word(
-    vars: &[Var],
-    hints: &mut Hints,
-    given: &mut [Option<u8>],
-    word: &[u8],
-) -> Result<(), Reason>
-    requires few { length vars.now ≤ 100 }
-    requires distinct { AreDistinct (map (λ (x : Variable). x.name) vars.now) }
-    requires few_values { All (λ (x : Variable). length x.values ≤ 64) vars.now }
-    requires one_each { length given.old ≡ length vars.now }
-    ensures { MatchResult result (λ _. with_word vars.now given.old word.now ≡ Ok given.new) (λ reason. with_word vars.now given.old word.now ≡ Err reason) }
+/// Gives a variable a value.
+fn give(given: &mut [Option<u8>], var: usize, value: u8) -> Result<(), Reason>
+    requires { var < length given.old }
+    ensures { MatchResult result (λ _. with_pair given.old (var, value) ≡ Ok given.new) (λ reason. with_pair given.old (var, value) ≡ Err reason) }
 {
-    let Some((name, value)) = sides(word) else {
-        return Err(Reason::Pair);
-    };
-    let Some((var, value)) = hints.numbers(vars, name, value) else {
-        return Err(Reason::Unknown);
-    };
     if given[var].is_some() {
         return Err(Reason::Twice);
     }
@@ -42,19 +27,56 @@ fn take_word(
     Ok(())
 }
 
+/// Takes the value that a word gives a variable.
+fn take_word(vars: &[Var], given: &mut [Option<u8>], word: &[u8]) -> Result<(), Reason>
+    requires vars { AreVars vars.now }
+    requires one_each { length given.old ≡ length vars.now }
+    ensures { MatchResult result (λ _. with_word vars.now given.old word.now ≡ Ok given.new) (λ reason. with_word vars.now given.old word.now ≡ Err reason) }
+{
+    let Some((name, value)) = sides(word) else {
+        return Err(Reason::Pair);
+    };
+    let Some((var, value)) = numbers(vars, name, value) else {
+        return Err(Reason::Unknown);
+    };
+    give(given, var, value)
+}
+
+/// Takes the value that the first word of a line gives a variable, and returns what stands behind the word. A word that the hints don't lead
+/// to is at fault, so that all names are searched at most once for a line.
+fn take_first<'a>(
+    vars: &[Var],
+    hints: &mut Hints,
+    given: &mut [Option<u8>],
+    line: &'a [u8],
+) -> Result<&'a [u8], Reason>
+    requires vars { AreVars vars.now }
+    requires one_each { length given.old ≡ length vars.now }
+    requires some { 0 < length line.now }
+    requires at_word { IsAtWord line.now }
+    ensures words { MatchResult result (λ behind. with_words vars.now given.old (words_of line.now) ≡ with_words vars.now given.new (words_of behind.now)) (λ reason. with_words vars.now given.old (words_of line.now) ≡ Err reason) }
+    ensures shorter { IfOk result (λ behind. length behind.now < length line.now) }
+{
+    if let Some((var, value, behind)) = hints.pair(vars, line) {
+        give(given, var, value)?;
+        return Ok(behind);
+    }
+    let (word, behind) = first_word(line);
+    take_word(vars, given, word)?;
+    Ok(behind)
+}
+
 /// Takes the values that the words of a line give the variables.
 fn take_words(vars: &[Var], given: &mut [Option<u8>], line: &[u8]) -> Result<(), Reason>
-    requires few { length vars.now ≤ 100 }
-    requires distinct { AreDistinct (map (λ (x : Variable). x.name) vars.now) }
-    requires few_values { All (λ (x : Variable). length x.values ≤ 64) vars.now }
+    requires vars { AreVars vars.now }
     requires one_each { length given.old ≡ length vars.now }
     ensures { MatchResult result (λ _. with_words vars.now given.old (words_of line.now) ≡ Ok given.new) (λ reason. with_words vars.now given.old (words_of line.now) ≡ Err reason) }
 {
     let mut hints = Hints::new();
-    let mut rest = line;
-    while let Some((word, behind)) = split_word(rest) {
-        take_word(vars, &mut hints, given, word)?;
-        rest = behind;
+    let mut rest = without_blanks(line);
+    while !rest.is_empty() {
+        let behind = take_first(vars, &mut hints, given, rest)?;
+        rest = without_blanks(behind);
     }
     Ok(())
 }
@@ -76,9 +98,7 @@ fn gather(given: &[Option<u8>]) -> Option<State>
 
 /// The state that the words of a line name.
 fn read_state(vars: &[Var], line: &[u8]) -> Result<State, Reason>
-    requires few { length vars.now ≤ 100 }
-    requires distinct { AreDistinct (map (λ (x : Variable). x.name) vars.now) }
-    requires few_values { All (λ (x : Variable). length x.values ≤ 64) vars.now }
+    requires { AreVars vars.now }
     ensures read { result ≡ state_of_words vars.now (words_of line.now) }
     ensures fits { IfOk result (IsState (map (λ (x : Variable). length x.values) vars.now)) }
 {

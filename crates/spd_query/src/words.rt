@@ -6,7 +6,7 @@ ghost use Rattle.spd_query.specs.Lines.{is_blank, may_stand, words_of};
 ghost use Rattle.spd_query.specs.inner.Places.{IsAtWord};
 
 /// Space, tab and CR.
-fn is_blank(byte: u8) -> bool
+pub(crate) fn is_blank(byte: u8) -> bool
     ensures { result ≡ is_blank byte }
 {
     matches!(byte, b' ' | b'\t' | b'\r')
@@ -23,11 +23,16 @@ fn may_stand(byte: u8) -> bool
 pub(crate) fn all_may_stand(line: &[u8]) -> bool
     ensures { result ≡ list_all may_stand line.now }
 {
-    line.iter().all(|byte| may_stand(*byte))
+    // No early exit, so that many bytes are tested at a time.
+    let mut all = true;
+    for byte in line {
+        all &= may_stand(*byte);
+    }
+    all
 }
 
 /// A line from its first byte on that is no blank.
-fn without_blanks(line: &[u8]) -> &[u8]
+pub(crate) fn without_blanks(line: &[u8]) -> &[u8]
     ensures words { words_of result.now ≡ words_of line.now }
     ensures at_word { IsAtWord result.now }
     ensures shorter { length result.now ≤ length line.now }
@@ -54,14 +59,23 @@ fn word_len(line: &[u8]) -> usize
     len
 }
 
+/// The word at which a line begins, and what stands behind it.
+pub(crate) fn first_word(line: &[u8]) -> (&[u8], &[u8])
+    requires some { 0 < length line.now }
+    requires at_word { IsAtWord line.now }
+    ensures words { words_of line.now ≡ result.0.now ∷ words_of result.1.now }
+    ensures shorter { length result.1.now < length line.now }
+{
+    line.split_at(word_len(line))
+}
+
 /// The first word of a line, and what stands behind it.
 pub(crate) fn split_word(line: &[u8]) -> Option<(&[u8], &[u8])>
     ensures words { MatchOption result (words_of line.now ≡ []) (λ r. words_of line.now ≡ r.0.now ∷ words_of r.1.now) }
-    ensures shorter { MatchOption result (words_of line.now ≡ []) (λ r. length r.1.now < length line.now) }
 {
     let line = without_blanks(line);
     if line.is_empty() {
         return None;
     }
-    Some(line.split_at(word_len(line)))
+    Some(first_word(line))
 }
