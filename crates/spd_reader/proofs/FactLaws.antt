@@ -12,7 +12,7 @@ use Rattle.spd_reader.specs.declared.dd.Dd.{Dd}
 use Rattle.spd_reader.specs.declared.facts.Facts.{Facts}
 use Rattle.spd_reader.specs.declared.purpose.Purpose.{Purpose}
 use Rattle.spd_reader.specs.declared.purpose.Purpose.TheVariants.{Diagram, Table, Reward}
-use Rattle.spd_reader.specs.Trees.{may_prime, primes_wrong, is_negative, is_fine, negative_wrong, fine_wrong}
+use Rattle.spd_reader.specs.Trees.{primes_wrong, is_negative, is_fine, negative_wrong, fine_wrong}
 use Rattle.spd_reader.specs.Facts.{facts, facts_of, no_facts, lesser_var, together, deeper, of_leaf, of_branch, primed_var, least_primed, primes_wrong_in, negative_wrong_in, fine_wrong_in}
 
 lesser_none : (a : Option ℕ) → lesser_var a None ≡ a
