@@ -1,8 +1,7 @@
 -- What the items of actions mean and the faults of their names, one after the other.
-use Rattle.std.proofs.Common.{◌≡◌, ℕ, ◌+◌, ◌<◌, ◌≤◌, Bool, List, [], ◌∷◌, ◌++◌, length, get_or, drop, Option, Some, None, refl, sym, ap, ◌∙◌, append_assoc}
+use Rattle.std.proofs.Common.{◌≡◌, ℕ, ◌+◌, ◌<◌, ◌≤◌, Bool, List, [], ◌∷◌, ◌++◌, length, get_or, drop, Option, refl, sym, ap, ◌∙◌, append_assoc}
 use Rattle.std.specs.Prelude.{is_some, unwrap_or}
-use Rattle.std.proofs.lemmas.List.{at_drop_more, at_drop_all, append-nil}
-use Rattle.std.proofs.Math.ListN.{length-set}
+use Rattle.std.proofs.lemmas.List.{at_drop_more, at_drop_all}
 use Rattle.spd_model.specs.declared.tree.Tree.{Tree}
 use Rattle.spd_syntax.specs.declared.file.Shape.{Shape}
 use Rattle.spd_syntax.specs.declared.file.Item.{Item}
@@ -13,9 +12,10 @@ use Rattle.spd_syntax.specs.declared.file.Word.{Word}
 use Rattle.spd_syntax.specs.Words.{text_of}
 use Rattle.spd_reader.specs.declared.purpose.Purpose.TheVariants.{Table, Reward}
 use Rattle.spd_reader.specs.Faults.{least, when}
-use Rattle.spd_reader.specs.Trees.{Scope, var_number, put, place_faults, meaning, tree_faults}
+use Rattle.spd_reader.specs.Trees.{Scope, var_number, place_faults, meaning, tree_faults}
 use Rattle.spd_reader.specs.Models.{Filled, amounts_of, amounts_faults, with_item, item_faults, items_of, items_faults}
 use Rattle.spd_reader.proofs.LeastLaws.{least_two, least_none}
+use Rattle.spd_reader.proofs.TreeLaws.{length-put}
 
 -- ---- one part of a reward or a cost more
 
@@ -38,10 +38,6 @@ module _ (file : List ℕ) (s : Scope) (trees : List Shape) (i : ℕ) (shape d :
 
 -- ---- behind the last part
 
-pub amounts_meant : (file : List ℕ) (s : Scope) (amounts all : List Tree) (trees : List Shape) (i : ℕ) → length trees ≤ i → amounts ++ amounts_of file s (drop i trees) ≡ all → amounts ≡ all
-amounts_meant file s amounts all trees i past told =
-    sym (append-nil amounts) ∙ sym (at_drop_all (λ (l : List Shape). amounts ++ amounts_of file s l) trees i past) ∙ told
-
 pub amounts_noted : (file : List ℕ) (s : Scope) (trees : List Shape) (i : ℕ) (found all : Option Refusal) → length trees ≤ i → least found (amounts_faults file s (drop i trees)) ≡ all → found ≡ all
 amounts_noted file s trees i found all past told = least_none found ∙ sym (at_drop_all (λ (l : List Shape). least found (amounts_faults file s l)) trees i past) ∙ told
 
@@ -62,17 +58,10 @@ module _ (file : List ℕ) (s : Scope) (t more : Filled) (its : List Item) (i : 
 
 -- ---- behind the last item
 
-pub items_meant : (file : List ℕ) (s : Scope) (t all : Filled) (its : List Item) (i : ℕ) → length its ≤ i → items_of file s t (drop i its) ≡ all → t ≡ all
-items_meant file s t all its i past told = sym (at_drop_all (λ (l : List Item). items_of file s t l) its i past) ∙ told
-
 pub items_noted : (file : List ℕ) (s : Scope) (t : Filled) (its : List Item) (i : ℕ) (found all : Option Refusal) → length its ≤ i → least found (items_faults file s t (drop i its)) ≡ all → found ≡ all
 items_noted file s t its i found all past told = least_none found ∙ sym (at_drop_all (λ (l : List Item). least found (items_faults file s t l)) its i past) ∙ told
 
 -- ---- an item leaves as many places as there were
-
-length-put : (places : List (Option Tree)) (place : Option ℕ) (tree : Tree) → length (put places place tree) ≡ length places
-length-put places None tree = refl
-length-put places (Some v) tree = length-set places v (Some tree)
 
 pub length-with_item : (file : List ℕ) (s : Scope) (t : Filled) (item : Item) → length (with_item file s t item).tables ≡ length t.tables
 length-with_item file s t (items.Table w tree) = length-put t.tables (var_number s (text_of file w)) (meaning file s tree)

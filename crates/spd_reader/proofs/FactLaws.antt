@@ -12,12 +12,8 @@ use Rattle.spd_reader.specs.declared.dd.Dd.{Dd}
 use Rattle.spd_reader.specs.declared.facts.Facts.{Facts}
 use Rattle.spd_reader.specs.declared.purpose.Purpose.{Purpose}
 use Rattle.spd_reader.specs.declared.purpose.Purpose.TheVariants.{Diagram, Table, Reward}
-use Rattle.spd_reader.specs.Trees.{may_prime, primes_wrong, is_negative, is_fine, negative_wrong, fine_wrong}
+use Rattle.spd_reader.specs.Trees.{primes_wrong, is_negative, is_fine, negative_wrong, fine_wrong}
 use Rattle.spd_reader.specs.Facts.{facts, facts_of, no_facts, lesser_var, together, deeper, of_leaf, of_branch, primed_var, least_primed, primes_wrong_in, negative_wrong_in, fine_wrong_in}
-
-or_false : (b : Bool) → (b || false) ≡ b
-or_false true = refl
-or_false false = refl
 
 lesser_none : (a : Option ℕ) → lesser_var a None ≡ a
 lesser_none None = refl
@@ -33,10 +29,6 @@ primed_append : (ps qs : List Part) → least_primed (ps ++ qs) ≡ lesser_var (
 primed_append [] qs = refl
 primed_append (p ∷ ps) qs = ap (lesser_var (primed_var p)) (primed_append ps qs) ∙ sym (lesser_assoc (primed_var p) (least_primed ps) (least_primed qs))
 
-same_facts : (a b : Option ℕ) (c d e f : Bool) (m n : ℕ) → a ≡ b → c ≡ d → e ≡ f → m ≡ n
-    → (let x : Facts = record { primed = a; negative = c; fine = e; nesting = m } in x) ≡ record { primed = b; negative = d; fine = f; nesting = n }
-same_facts a b c d e f m n p q r s = λ i. record { primed = p i; negative = q i; fine = r i; nesting = s i }
-
 -- two trees beside one another
 beside : (ps qs : List Part) (m n : ℕ) → together (facts_of ps m) (facts_of qs n) ≡ facts_of (ps ++ qs) (max m n)
 beside ps qs m n =
@@ -44,7 +36,10 @@ beside ps qs m n =
     λ i. record { primed = sym (primed_append ps qs) i; negative = sym (list_any-append is_negative ps qs) i; fine = sym (list_any-append is_fine ps qs) i; nesting = deep i }
 
 of_number : (x : ℤ) → of_leaf x ≡ facts_of (number x ∷ []) 1
-of_number x = λ i. record { primed = None; negative = sym (or_false (int_lt x (pos 0))) i; fine = sym (or_false (not (unsigned_abs x % 1000 == 0))) i; nesting = 1 }
+of_number x =
+    let negative : int_lt x (pos 0) ≡ list_any is_negative (number x ∷ []) = grind arith in
+    let fine : not (unsigned_abs x % 1000 == 0) ≡ list_any is_fine (number x ∷ []) = grind arith in
+    λ i. record { primed = None; negative = negative i; fine = fine i; nesting = 1 }
 
 of_choice : (var : ℕ) (primed : Bool) (kids : ℕ) → of_branch var primed ≡ facts_of (choice var primed kids ∷ []) 0
 of_choice var primed kids = λ i. record { primed = sym (lesser_none (if primed then Some var else None)) i; negative = false; fine = false; nesting = 0 }
@@ -169,7 +164,7 @@ below_lesser i a b = grind (arith, nat_tests)
 
 wrong_lesser : (p : Purpose) (a b : Option ℕ) → (primes_wrong_in p a || primes_wrong_in p b) ≡ primes_wrong_in p (lesser_var a b)
 wrong_lesser p None b = refl
-wrong_lesser p (Some a) None = or_false (not (may_prime p a))
+wrong_lesser p (Some a) None = grind arith
 wrong_lesser Diagram (Some a) (Some b) = refl
 wrong_lesser (Table i) (Some a) (Some b) = below_lesser i a b
 wrong_lesser Reward (Some a) (Some b) = refl

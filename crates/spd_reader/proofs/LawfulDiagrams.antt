@@ -1,7 +1,7 @@
 -- What decision diagrams come to, as more of them are declared; and trees for their purposes.
-use Rattle.std.proofs.Common.{◌≡◌, ℕ, zero, suc, ◌<◌, ◌≤◌, List, [], ◌∷◌, ◌++◌, length, get_or, All, refl, sym, ap, subst, ◌∙◌, arith, length-append}
+use Rattle.std.proofs.Common.{◌≡◌, ℕ, ◌<◌, ◌≤◌, List, [], ◌∷◌, ◌++◌, length, get_or, All, refl, sym, ap, subst, ◌∙◌, arith, length-append}
 use Rattle.std.specs.Prelude.{flat_map}
-use Rattle.std.proofs.lemmas.List.{get_or_append_left, length-map}
+use Rattle.std.proofs.lemmas.List.{get_or_append_left, get_or_default, length-map}
 use Rattle.std.proofs.lemmas.List.Elements.{All-nil, All-cons, All-weaker}
 use Rattle.spd_lex.specs.declared.token.Token.{Token}
 use Rattle.spd_model.specs.declared.tree.Tree.{Tree}
@@ -39,12 +39,6 @@ kept-before way before (dd ∷ dds) d other h =
     kept-before way (before ++ read_tree way before dd ∷ []) dds d other (omega (arith, length-append before (read_tree way before dd ∷ [])))
     ∙ get_or_append_left before (read_tree way before dd ∷ []) other d h
 
--- inside a list it doesn't matter what stands for what isn't there
-get_or-inside : {X : Type 0} (xs : List X) (d : ℕ) (x y : X) → d < length xs → get_or xs d x ≡ get_or xs d y
-get_or-inside [] d x y h = absurd (omega arith)
-get_or-inside (z ∷ xs) zero x y h = refl
-get_or-inside (z ∷ xs) (suc d) x y h = get_or-inside xs d x y (omega arith)
-
 -- the first diagrams come to the same among all
 among-all : {X : Type 0} (way : Reading X) (first more all : List Tree) (d : ℕ) (x y : X) → all ≡ first ++ more → d < length first → get_or (read_diagrams way [] all) d x ≡ get_or (read_diagrams way [] first) d y
 among-all way first more all d x y e h =
@@ -52,7 +46,7 @@ among-all way first more all d x y e h =
     ap (λ (l : List Tree). get_or (read_diagrams way [] l) d x) e
     ∙ ap (λ l. get_or l d x) (read_diagrams-append way [] first more)
     ∙ kept-before way (read_diagrams way [] first) more d x near
-    ∙ get_or-inside (read_diagrams way [] first) d x y near
+    ∙ get_or_default (read_diagrams way [] first) d x y near
 
 -- a scope tells of its decision diagrams what they come to among all
 pub reads-among : (m : Process) (s : Scope) (more all : List Tree) → all ≡ s.dds ++ more → s.vars ≡ m.vars → length s.dd_names ≡ length s.dds → All (All (Fits m)) (read_diagrams parts [] s.dds)

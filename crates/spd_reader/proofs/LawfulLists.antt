@@ -1,6 +1,5 @@
 -- Lists of faults without one, and lists that are searched.
-use Rattle.std.proofs.Common.{◌≡◌, ◌≢◌, ℕ, ◌+◌, ◌<◌, Bool, true, false, List, [], ◌∷◌, ◌++◌, length, get_or, Some, All, refl, sym, arith, length-append}
-use Rattle.std.specs.Prelude.{flat_map}
+use Rattle.std.proofs.Common.{◌≡◌, ◌≢◌, ℕ, ◌<◌, Bool, true, false, List, [], ◌∷◌, ◌++◌, length, get_or, Some, All, refl, sym}
 use Rattle.std.specs.List.{list_any}
 use Rattle.std.specs.Str.{bytes_eq}
 use Rattle.std.proofs.lemmas.Bool.{or_parts, both_ways}
@@ -24,9 +23,6 @@ pub none-when : (b : Bool) (r : Refusal) → when b r ≡ [] → b ≡ false
 none-when true r h = absurd (cc h)
 none-when false r h = refl
 
-pub none-flat_map : {X Y : Type 0} (f : X → List Y) (x : X) (xs : List X) → flat_map f (x ∷ xs) ≡ [] → (f x ≡ []) × (flat_map f xs ≡ [])
-none-flat_map f x xs h = none-append (f x) (flat_map f xs) h
-
 -- no element passes
 pub none-passes : {X : Type 0} (p : X → Bool) (xs : List X) → list_any p xs ≡ false → All (λ x. p x ≡ false) xs
 none-passes p [] h = All-nil (λ x. p x ≡ false)
@@ -41,6 +37,3 @@ pub distinct-push : (names : List (List ℕ)) (name : List ℕ) → AreDistinct 
 distinct-push names name h none =
     all_pairs_push (λ x y. x ≢ y) names name h
     (λ k d near e. both_ways (bytes_eq name (get_or names k d)) (none-passes (bytes_eq name) names none k d near) ((bytes_eq-Decides name (get_or names k d)).1 (sym e)))
-
-pub length-push : {X : Type 0} (xs : List X) (x : X) → length (xs ++ x ∷ []) ≡ length xs + 1
-length-push xs x = omega (arith, length-append xs (x ∷ []))

@@ -2,7 +2,7 @@
 use Rattle.std.proofs.Common.{◌≡◌, ℕ, ◌+◌, ◌<◌, ◌≤◌, ◌^◌, Bool, true, false, List, [], ◌∷◌, ◌++◌, length, All, refl, sym, ap, subst, ◌∙◌, arith, ℤ, pos, ◌≤ℤ◌, append-nil}
 use Rattle.std.specs.Prelude.{IfSome, is_some, unsigned_abs, if◌then◌else◌}
 use Rattle.std.proofs.lemmas.Bool.{cond-false}
-use Rattle.std.proofs.lemmas.List.{map-append}
+use Rattle.std.proofs.lemmas.List.{length_push, map-append}
 use Rattle.std.proofs.lemmas.List.Elements.{All-push}
 use Rattle.std.proofs.Common.{append_assoc}
 use Rattle.spd_lex.specs.declared.token.Token.{Token}
@@ -28,7 +28,7 @@ use Rattle.spd_reader.specs.Models.{Said, action_of, action_faults, action_names
 use Rattle.spd_reader.specs.Trees.{Scope, is_among, meaning, tree_faults}
 use Rattle.spd_reader.proofs.LawfulActions.{action-good}
 use Rattle.spd_reader.proofs.LawfulDiagrams.{read_diagrams-push, reads-among, serves-diagram, part-good}
-use Rattle.spd_reader.proofs.LawfulLists.{none-append, none-when, distinct-push, length-push}
+use Rattle.spd_reader.proofs.LawfulLists.{none-append, none-when, distinct-push}
 use Rattle.spd_reader.proofs.LawfulNumbers.{discount-number, tolerance-number, horizon-number}
 use Rattle.spd_reader.proofs.LawfulParts.{Good}
 use Rattle.spd_reader.proofs.LawfulTokens.{first-shorter, section-length}
@@ -98,9 +98,9 @@ module _ (file : List ℕ) (m : Process) (c : Counts) (said : Said) (k : Kept m 
       let is : with_dd s (text_of file w) tree ≡ record s { dd_names = s.dd_names ++ text_of file w ∷ []; dds = s.dds ++ tree ∷ [] } = cond-false (is_among s.dd_names (text_of file w)) s (record s { dd_names = s.dd_names ++ text_of file w ∷ []; dds = s.dds ++ tree ∷ [] }) new in
       subst (λ (t : Scope). Kept m (one_dd c) (record said { scope = t })) (sym is) (record {
         vars = k.vars;
-        names = length-push s.dd_names (text_of file w) ∙ ap (λ n. n + 1) k.names ∙ sym (length-push s.dds tree);
-        dds = length-push s.dds tree ∙ ap (λ n. n + 1) k.dds;
-        few_dds = omega (arith, length-push s.dds tree, k.dds, few);
+        names = length_push s.dd_names (text_of file w) ∙ ap (λ n. n + 1) k.names ∙ sym (length_push s.dds tree);
+        dds = length_push s.dds tree ∙ ap (λ n. n + 1) k.dds;
+        few_dds = omega (arith, length_push s.dds tree, k.dds, few);
         fits = subst (All (All (Fits m))) (sym (read_diagrams-push parts s.dds tree)) (All-push (All (Fits m)) (read_diagrams parts [] s.dds) _ k.fits fits);
         nests = subst (All (λ n. n ≤ 300)) (sym (read_diagrams-push nesting s.dds tree)) (All-push (λ n. n ≤ 300) (read_diagrams nesting [] s.dds) _ k.nests nests);
         count = k.count;
@@ -124,8 +124,8 @@ module _ (file : List ℕ) (m : Process) (c : Counts) (said : Said) (k : Kept m 
         few_dds = k.few_dds;
         fits = k.fits;
         nests = k.nests;
-        count = length-push said.actions action ∙ ap (λ n. n + 1) k.count;
-        few_actions = omega (arith, length-push said.actions action, k.count, few);
+        count = length_push said.actions action ∙ ap (λ n. n + 1) k.count;
+        few_actions = omega (arith, length_push said.actions action, k.count, few);
         distinct = subst AreDistinct (sym names) (distinct-push (action_names said.actions) action.name k.distinct new);
         actions = All-push (IsAction m) said.actions action k.actions good;
         reward = k.reward;

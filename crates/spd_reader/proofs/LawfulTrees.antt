@@ -3,7 +3,7 @@ use Rattle.std.proofs.Common.{◌≡◌, ℕ, zero, suc, ◌+◌, ◌-◌, ◌^�
 use Rattle.std.specs.Prelude.{nat_lt, unsigned_abs, slice_index, slice_index_or, unwrap_or}
 use Rattle.std.specs.List.{list_any}
 use Rattle.std.proofs.lemmas.Bool.{ltb-false}
-use Rattle.std.proofs.lemmas.List.{length-map, length-set, length-replicate}
+use Rattle.std.proofs.lemmas.List.{length-map, length-replicate}
 use Rattle.std.proofs.lemmas.List.Elements.{All-map, All-weaker, All-set, All-replicate}
 use Rattle.spd_lex.specs.declared.token.Token.{Token}
 use Rattle.spd_model.specs.declared.tree.Tree.{Tree, Leaf, Named, Branch}
@@ -24,12 +24,9 @@ use Rattle.spd_reader.specs.Faults.{when}
 use Rattle.spd_reader.specs.Trees.{Scope, number_in, var_names, var_number, values_of, no_trees, put, trees_of, place_faults, meaning, branches_of, primes_wrong, negative_wrong, fine_wrong, dd_parts, dd_nesting, use_faults, name_faults, tree_faults, branch_faults}
 use Rattle.spd_reader.proofs.LawfulLists.{none-append, none-three, none-when, number-below}
 use Rattle.spd_reader.proofs.LawfulParts.{FitsPurpose, Good, GoodTree, none-wrong, zero-good, number-good, choice-serves, choice-good}
+use Rattle.spd_reader.proofs.TreeLaws.{length-put}
 
 -- ---- places
-
-pub length-put : (places : List (Option Tree)) (v : Option ℕ) (tree : Tree) → length (put places v tree) ≡ length places
-length-put places None tree = refl
-length-put places (Some v) tree = length-set places v (Some tree)
 
 pub length-branches : (file : List ℕ) (s : Scope) (values : List (List ℕ)) (places : List (Option Tree)) {k : _} (row : Row_of-Branch k) → length (branches_of file s values places row) ≡ length places
 length-branches file s values places end_of-Branch = refl

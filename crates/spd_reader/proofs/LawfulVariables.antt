@@ -2,7 +2,7 @@
 use Rattle.std.proofs.Common.{◌≡◌, ℕ, ◌+◌, ◌-◌, ◌≤◌, false, List, [], ◌∷◌, ◌++◌, length, All, IsTrue, refl, sym, ap, subst, ◌∙◌, arith}
 use Rattle.std.specs.Prelude.{sum_by}
 use Rattle.std.proofs.lemmas.Bool.{cond-false}
-use Rattle.std.proofs.lemmas.List.{map-append}
+use Rattle.std.proofs.lemmas.List.{length_push, map-append}
 use Rattle.std.proofs.lemmas.List.Elements.{All-nil, All-push}
 use Rattle.std.proofs.lemmas.List.Sums.{sum_by-append}
 use Rattle.spd_lex.specs.declared.token.Token.{Token}
@@ -19,7 +19,7 @@ use Rattle.spd_syntax.specs.Files.{Each, AValue, AVariable, AreVariables, after_
 use Rattle.spd_reader.specs.Faults.{when}
 use Rattle.spd_reader.specs.Models.{value_names, value_faults, var_of, with_variable, variables_of, variables_faults}
 use Rattle.spd_reader.specs.Trees.{is_among, with_name, var_names}
-use Rattle.spd_reader.proofs.LawfulLists.{none-append, none-three, none-when, distinct-push, length-push}
+use Rattle.spd_reader.proofs.LawfulLists.{none-append, none-three, none-when, distinct-push}
 use Rattle.spd_reader.proofs.LawfulNames.{name-passed, value-passed}
 
 pub none-distinct : AreDistinct []
@@ -41,7 +41,7 @@ values-kept file before names (w ∷ ws) a e h none k =
     let new : is_among names text ≡ false = none-when (is_among names text) (refusals.Twice w.from) q.0 in
     let is : with_name names text ≡ names ++ text ∷ [] = cond-false (is_among names text) names (names ++ text ∷ []) new in
     let more : KeptValues (before + 1) (with_name names text) = subst (KeptValues (before + 1)) (sym is) (record {
-      count = length-push names text ∙ ap (λ n. n + 1) k.count;
+      count = length_push names text ∙ ap (λ n. n + 1) k.count;
       named = All-push (λ v. IsTrue (is_value_name v)) names text k.named (value-passed _ w.from text h.1.value.is);
       distinct = distinct-push names text k.distinct new;
     }) in
@@ -77,7 +77,7 @@ variable-kept file c vars v a e h new none k =
     let own = all-values file (one_variable c) v h.b e h.values none in
     let names : var_names (vars ++ x ∷ []) ≡ var_names vars ++ text_of file v.name ∷ [] = map-append (λ (y : Var). y.name) vars (x ∷ []) in
     let sum : tests_of (vars ++ x ∷ []) ≡ c.tests + (length v.values - 1) = sum_by-append (λ (y : Var). length y.values - 1) vars (x ∷ []) ∙ omega (arith, k.tests, own.1) in
-    let longer = length-push vars x in
+    let longer = length_push vars x in
     subst (KeptVars (after_variable c v)) (sym is) (record {
       count = longer ∙ ap (λ n. n + 1) k.count;
       few = omega (arith, longer, k.count, h.few);

@@ -27,9 +27,6 @@ pub least_four : (f g h i j : Option Refusal) (a b c d : List Refusal) → g ≡
 least_four f g h i j a b c d p q r s = least_two f i j (a ++ b ++ c) d (least_three f g h i a b c p q r) s
 
 -- a fault stays found
-some_before : (b : Bool) (q r : Refusal) → (if b then Some r else Some q) ≡ None → ⊥
-some_before b q r h = elim b as (λ (x : Bool). (if x then Some r else Some q) ≡ None → ⊥) [ true ↦ λ e. cc | false ↦ λ e. cc ] h
-
 found_stays : (q : Refusal) (rs : List Refusal) → least (Some q) rs ≡ None → ⊥
 unfolding least
 found_stays q [] h = cc

@@ -1,6 +1,6 @@
 -- What sections say and the faults of their names, section by section.
-use Rattle.std.proofs.Common.{◌≡◌, ℕ, ◌+◌, ◌<◌, ◌≤◌, List, [], ◌∷◌, length, get_or, drop, Option, None, sym, ap, ◌∙◌, arith}
-use Rattle.std.proofs.lemmas.List.{at_drop_more, nil_from_length, length-drop}
+use Rattle.std.proofs.Common.{◌≡◌, ℕ, ◌+◌, ◌<◌, ◌≤◌, List, ◌∷◌, length, get_or, drop, Option, None, sym, ap, ◌∙◌}
+use Rattle.std.proofs.lemmas.List.{at_drop_more, at_drop_all}
 use Rattle.spd_syntax.specs.declared.file.Section.{Section}
 use Rattle.spd_syntax.specs.declared.refusal.Refusal.{Refusal}
 use Rattle.spd_reader.specs.Faults.{least}
@@ -28,9 +28,6 @@ module _ (file : List ℕ) (said more : Said) (ss : List Section) (i : ℕ) (b d
       ∙ ap (λ (x : Section). least found (sections_faults file said (x ∷ drop (i + 1) ss))) item
       ∙ sym (at_drop_more (λ (l : List Section). least found (sections_faults file said l)) ss i d within) ∙ told
 
-drop_past : {X : Type 0} (l : List X) (j : ℕ) → length l ≤ j → drop j l ≡ []
-drop_past l j h = nil_from_length (drop j l) (length-drop j l ∙ omega arith)
-
 pub sections_noted : (file : List ℕ) (said : Said) (found all : Option Refusal) (ss : List Section) (i : ℕ) → length ss ≤ i → least found (sections_faults file said (drop i ss)) ≡ all → found ≡ all
 sections_noted file said found all ss i past told =
-    least_none found ∙ sym (ap (λ (l : List Section). least found (sections_faults file said l)) (drop_past ss i past)) ∙ told
+    least_none found ∙ sym (at_drop_all (λ (l : List Section). least found (sections_faults file said l)) ss i past) ∙ told

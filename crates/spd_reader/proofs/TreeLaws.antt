@@ -1,8 +1,8 @@
 -- What trees mean and the faults of their names, branch by branch.
-use Rattle.std.proofs.Common.{◌≡◌, ℕ, ◌+◌, ◌-◌, ◌<◌, ◌≤◌, Bool, List, [], ◌∷◌, ◌++◌, length, get_or, drop, Option, refl, sym, ap, ◌∙◌, arith}
+use Rattle.std.proofs.Common.{◌≡◌, ℕ, ◌+◌, ◌-◌, ◌<◌, ◌≤◌, Bool, List, ◌∷◌, ◌++◌, length, get_or, drop, Option, Some, None, refl, sym, ap, ◌∙◌}
 use Rattle.std.specs.Prelude.{unwrap_or, is_none, ℤ}
 use Rattle.std.specs.List.{list_any}
-use Rattle.std.proofs.lemmas.List.{at_drop_more, nil_from_length, length-drop}
+use Rattle.std.proofs.lemmas.List.{at_drop_more, at_drop_all, length-set}
 use Rattle.spd_model.specs.declared.tree.Tree.{Tree, Branch as Fork}
 use Rattle.spd_syntax.specs.declared.file.Word.{Word}
 use Rattle.spd_syntax.specs.declared.file.Branch.{Branch}
@@ -16,6 +16,11 @@ use Rattle.spd_reader.specs.Faults.{least, when}
 use Rattle.spd_reader.specs.Trees.{Scope, var_number, values_of, number_in, no_trees, put, trees_of, place_faults, name_faults, meaning, branches_of, tree_faults, branch_faults}
 use Rattle.spd_reader.specs.Scopes.{branches_by, faults_by}
 use Rattle.spd_reader.proofs.LeastLaws.{least_three, least_none}
+
+-- a tree that is put in its place leaves as many places as there were
+pub length-put : (places : List (Option Tree)) (place : Option ℕ) (tree : Tree) → length (put places place tree) ≡ length places
+length-put places None tree = refl
+length-put places (Some v) tree = length-set places v (Some tree)
 
 -- ---- one branch more
 
@@ -40,13 +45,10 @@ module _ (file : List ℕ) (s : Scope) (values : List (List ℕ)) (places more :
       ∙ ap (λ (x : Branch). least found (faults_by file s p depth values places (x ∷ drop (i + 1) bs))) item
       ∙ sym (at_drop_more (λ (l : List Branch). least found (faults_by file s p depth values places l)) bs i d within) ∙ told
 
-drop_past : {X : Type 0} (l : List X) (j : ℕ) → length l ≤ j → drop j l ≡ []
-drop_past l j h = nil_from_length (drop j l) (length-drop j l ∙ omega arith)
-
 pub branches_noted : (file : List ℕ) (s : Scope) (p : Purpose) (depth : ℕ) (values : List (List ℕ)) (places : List (Option Tree)) (found all : Option Refusal) (bs : List Branch) (i : ℕ) → length bs ≤ i
     → least found (faults_by file s p depth values places (drop i bs)) ≡ all → found ≡ all
 branches_noted file s p depth values places found all bs i past told =
-    least_none found ∙ sym (ap (λ (l : List Branch). least found (faults_by file s p depth values places l)) (drop_past bs i past)) ∙ told
+    least_none found ∙ sym (at_drop_all (λ (l : List Branch). least found (faults_by file s p depth values places l)) bs i past) ∙ told
 
 -- ---- a choice, by the list of its branches
 

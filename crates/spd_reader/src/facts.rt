@@ -7,7 +7,7 @@ use crate::purpose::Purpose;
 
 /// What is written in a decision diagram and in those that it names, as far as a use of it asks.
 #[derive(Clone, Copy, PartialEq, Eq, Debug)]
-pub struct Facts {
+pub(crate) struct Facts {
     /// The least variable whose next value is tested.
     pub primed: Option<u32>,
     /// Whether a leaf is below zero.

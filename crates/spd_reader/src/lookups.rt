@@ -15,18 +15,8 @@ use crate::faults::{note, note_if};
 use crate::names::Names;
 use crate::purpose::Purpose;
 use spd_model::Tree;
-use spd_syntax::{Refusal, What, Word};
+use spd_syntax::{Refusal, What, Word, text_of};
 use std::alloc::AllocError;
-
-/// The bytes of a word, as far as the file has them.
-pub(crate) fn text_of<'f>(file: &'f [u8], word: Word) -> &'f [u8]
-    ensures { result.now ≡ text_of file.now word }
-{
-    let (_, back) = file.split_at(file.len().min(word.from as usize));
-    let len = word.to.saturating_sub(word.from) as usize;
-    let (text, _) = back.split_at(back.len().min(len));
-    text
-}
 
 /// Notes the faults of the name of a choice.
 #[tactic(auto, unfolding(crate::specs::Faults::least))]

@@ -7,10 +7,9 @@ ghost use Rattle.spd_reader.specs.Scopes.{scope_of, with_variables};
 
 use crate::faults::note_if;
 use crate::index::Index;
-use crate::lookups::text_of;
 use crate::names::Names;
 use spd_model::Var;
-use spd_syntax::{Refusal, Variable, Word};
+use spd_syntax::{Refusal, Variable, Word, text_of};
 use sqlite_items::Items;
 use std::alloc::{AllocError, Global};
 

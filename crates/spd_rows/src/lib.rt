@@ -1,4 +1,5 @@
-//! Tests that cross crates: model files in, result texts, statuses and messages out.
+//! Tests that cross crates: model files in, result texts, statuses and messages out. Tests of the calls that read files and
+//! words stand here too.
 #![tactic(auto)]
 
 #[cfg(test)]
@@ -8,6 +9,8 @@ mod changed_values;
 #[cfg(test)]
 mod command;
 #[cfg(test)]
+mod commands;
+#[cfg(test)]
 mod decimals;
 #[cfg(test)]
 mod edges;
@@ -16,6 +19,8 @@ mod files;
 #[cfg(test)]
 mod limits;
 #[cfg(test)]
+mod models;
+#[cfg(test)]
 mod numbers;
 #[cfg(test)]
 mod outside;
@@ -23,6 +28,8 @@ mod outside;
 mod refused;
 #[cfg(test)]
 mod solved;
+#[cfg(test)]
+mod syntax;
 #[cfg(test)]
 mod texts;
 #[cfg(test)]

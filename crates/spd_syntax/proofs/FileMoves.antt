@@ -33,8 +33,8 @@ use Rattle.spd_syntax.specs.Words.{text_of, name_passes, value_passes}
 use Rattle.spd_syntax.specs.Positions.{Position, file_begins, variables_word, first_variable, variable_name, first_value, more_values, more_variables, section, no_section, dd_name, dd_end, action_name, item, part, plus_sign, plus_step, more_parts, tree, inside, number, takes, fault_step, fault_from, counted, ◌then◌, none_yet, one_variable, one_test, one_dd, one_action, with_reward, after_setting, section_word, section_step, item_word, item_step, has_all}
 use Rattle.spd_syntax.specs.Grammar.{One, AWord, IsValue, IsNumber, IsTree}
 use Rattle.spd_syntax.specs.Files.{Each, Key, AName, AValue, HasValues, AVariable, AreVariables, after_variable, AreTrees, APart, a_tree, a_sum, AnItem, AreItems, IsBody, ASection, AreSections, after_section, IsFile, IsWritten}
-use Rattle.spd_syntax.specs.Reading.{Faults, Fails, here, Lacks, Misses, NamesAt, value_judged, body_positions, fault_after, first_fault}
-use Rattle.spd_syntax.proofs.Moves.{Moves, stay, then_moves, moves_more, fails_more, faults_after, fails_after, goes, goes_at, goes_word, stops_word, Only, misses, then_ok, then_err}
+use Rattle.spd_syntax.specs.Reading.{Faults, Fails, Only, here, Lacks, Misses, NamesAt, KeywordAt, value_judged, body_positions, fault_after, first_fault}
+use Rattle.spd_syntax.proofs.Moves.{Moves, stay, then_moves, moves_more, fails_more, faults_after, fails_after, goes, goes_at, goes_word, stops_word, only_word, only_open, misses, then_ok, then_err}
 use Rattle.spd_syntax.proofs.TreeMoves.{tree_moves, inside_moves}
 
 under : {A : Type 0} (what : What) (most n at : ℕ) (next : Result A Refusal) → n < most → counted what most n at next ≡ next
@@ -46,28 +46,16 @@ over what most n at next h = let t : nat_lt n most ≡ false = grind (arith, nat
 -- ---- names that are declared
 
 pub variable_names : (c : Counts) → NamesAt (variable_name c) whats.Variables 100 c.vars (first_value (one_variable c) ∷ [])
-variable_names c = record { others = other; at_end = λ end ps. refl; word = λ at text. refl }
-  where
-    other : (k : Kind) (at : ℕ) (text : List ℕ) → (k ≡ WordKind → ⊥) → takes (variable_name c) k at text ≡ Err (Expected at wants.Name)
-    other WordKind at text differs = absurd (differs refl)
-    other k at text differs = refl
+variable_names c = record { only = only_word (variable_name c) wants.Name (λ at text. refl) (λ at text. refl) (λ at text. refl) (λ at text. refl) (λ end ps. refl); word = λ at text. refl }
 
 pub dd_names : (n : ℕ) → NamesAt (dd_name n) whats.Dds 4096 n []
-dd_names n = record { others = other; at_end = λ end ps. refl; word = λ at text. refl }
-  where
-    other : (k : Kind) (at : ℕ) (text : List ℕ) → (k ≡ WordKind → ⊥) → takes (dd_name n) k at text ≡ Err (Expected at wants.Name)
-    other WordKind at text differs = absurd (differs refl)
-    other k at text differs = refl
+dd_names n = record { only = only_word (dd_name n) wants.Name (λ at text. refl) (λ at text. refl) (λ at text. refl) (λ at text. refl) (λ end ps. refl); word = λ at text. refl }
 
 pub action_names : (n : ℕ) → NamesAt (action_name n) whats.Actions 64 n []
-action_names n = record { others = other; at_end = λ end ps. refl; word = λ at text. refl }
-  where
-    other : (k : Kind) (at : ℕ) (text : List ℕ) → (k ≡ WordKind → ⊥) → takes (action_name n) k at text ≡ Err (Expected at wants.Name)
-    other WordKind at text differs = absurd (differs refl)
-    other k at text differs = refl
+action_names n = record { only = only_word (action_name n) wants.Name (λ at text. refl) (λ at text. refl) (λ at text. refl) (λ at text. refl) (λ end ps. refl); word = λ at text. refl }
 
 pub names_miss : (file : List ℕ) (p : Position) (what : What) (most count : ℕ) (qs : List Position) (ts : List Token) (f : Refusal) → NamesAt p what most count qs → Misses file WordKind wants.Name ts f → Faults file (p ∷ []) ts f
-names_miss file p what most count qs ts f names m = misses file p WordKind wants.Name ts f (record { others = names.others; at_end = names.at_end }) m
+names_miss file p what most count qs ts f names m = misses file p WordKind wants.Name ts f names.only m
 
 pub names_stop : (file : List ℕ) (p : Position) (what : What) (most count : ℕ) (qs : List Position) (w : Word) (a b : List Token) (f : Refusal) → NamesAt p what most count qs → AWord w a b
     → Err f ≡ name_passes wants.Name w.from (text_of file w) → Faults file (p ∷ []) a f
@@ -88,11 +76,7 @@ names_go file p what most count qs w a b names name room =
 -- ---- values
 
 pub first_only : (c : Counts) → Only (first_value c) WordKind wants.Value
-first_only c = record { others = other; at_end = λ end ps. refl }
-  where
-    other : (k : Kind) (at : ℕ) (text : List ℕ) → (k ≡ WordKind → ⊥) → takes (first_value c) k at text ≡ Err (Expected at wants.Value)
-    other WordKind at text differs = absurd (differs refl)
-    other k at text differs = refl
+first_only c = only_word (first_value c) wants.Value (λ at text. refl) (λ at text. refl) (λ at text. refl) (λ at text. refl) (λ end ps. refl)
 
 pub first_stops : (file : List ℕ) (c : Counts) (w : Word) (a b : List Token) (f : Refusal) → AWord w a b → Err f ≡ value_passes wants.Value w.from (text_of file w) → Faults file (first_value c ∷ []) a f
 first_stops file c w a b f word found = stops_word file (first_value c) w a b f word (then_err (value_passes wants.Value w.from (text_of file w)) (Ok (more_values 1 c ∷ [])) f (sym found))
@@ -255,11 +239,7 @@ variables_stopped file c (t ∷ ts) f lo lc is = record {
     other k lo lc at text = refl
 
 pub first_variable_only : Only first_variable Open wants.Open
-first_variable_only = record { others = other; at_end = λ end ps. refl }
-  where
-    other : (k : Kind) (at : ℕ) (text : List ℕ) → (k ≡ Open → ⊥) → takes first_variable k at text ≡ Err (Expected at wants.Open)
-    other Open at text differs = absurd (differs refl)
-    other k at text differs = refl
+first_variable_only = only_open first_variable wants.Open (λ at text. refl) (λ at text. refl) (λ at text. refl) (λ at text. refl) (λ end ps. refl)
 
 pub variables_empty : (file : List ℕ) (k : Counts) (vs : List Variable) (a e : List Token) (f : Refusal) → length vs ≡ 0 → AreVariables file none_yet vs k a e → Lacks Open e → f ≡ Expected (here file e) wants.Open
     → Faults file (first_variable ∷ []) a f
@@ -278,47 +258,30 @@ variables_keep file c k (v ∷ vs) a e are = variables_keep file (after_variable
 
 -- ---- words of the grammar
 
-pub enddd_only : Only dd_end WordKind wants.EndDd
-enddd_only = record { others = other; at_end = λ end ps. refl }
-  where
-    other : (k : Kind) (at : ℕ) (text : List ℕ) → (k ≡ WordKind → ⊥) → takes dd_end k at text ≡ Err (Expected at wants.EndDd)
-    other WordKind at text differs = absurd (differs refl)
-    other k at text differs = refl
+pub enddd_at : KeywordAt dd_end (codes "enddd") wants.EndDd []
+enddd_at = record { only = only_word dd_end wants.EndDd (λ at text. refl) (λ at text. refl) (λ at text. refl) (λ at text. refl) (λ end ps. refl); word = λ at text. refl }
 
-pub enddd_stops : (file : List ℕ) (w : Word) (a b : List Token) → AWord w a b → bytes_eq (text_of file w) (codes "enddd") ≡ false → Faults file (dd_end ∷ []) a (Expected w.from wants.EndDd)
-enddd_stops file w a b word other = stops_word file dd_end w a b (Expected w.from wants.EndDd) word (ap (λ t. cond t (Ok []) (Err (Expected w.from wants.EndDd))) other)
+pub variables_at : KeywordAt variables_word (codes "variables") wants.Variables (first_variable ∷ [])
+variables_at = record { only = only_word variables_word wants.Variables (λ at text. refl) (λ at text. refl) (λ at text. refl) (λ at text. refl) (λ end ps. refl); word = λ at text. refl }
 
-pub enddd_goes : (file : List ℕ) (w : Word) (a b : List Token) → Key file (codes "enddd") w a b → Moves file (dd_end ∷ []) a [] b
-enddd_goes file w a b key = goes_word file dd_end [] w a b key.word (ap (λ t. cond t (Ok []) (Err (Expected w.from wants.EndDd))) key.says.is)
+module _ (file : List ℕ) (p : Position) (keyword : List ℕ) (want : Want) (qs : List Position) (stands : KeywordAt p keyword want qs) where
+  pub keyword_misses : (ts : List Token) (f : Refusal) → Misses file WordKind want ts f → Faults file (p ∷ []) ts f
+  keyword_misses ts f m = misses file p WordKind want ts f stands.only m
 
-pub variables_only : Only variables_word WordKind wants.Variables
-variables_only = record { others = other; at_end = λ end ps. refl }
-  where
-    other : (k : Kind) (at : ℕ) (text : List ℕ) → (k ≡ WordKind → ⊥) → takes variables_word k at text ≡ Err (Expected at wants.Variables)
-    other WordKind at text differs = absurd (differs refl)
-    other k at text differs = refl
+  pub keyword_stops : (w : Word) (a b : List Token) → AWord w a b → bytes_eq (text_of file w) keyword ≡ false → Faults file (p ∷ []) a (Expected w.from want)
+  keyword_stops w a b word other =
+      stops_word file p w a b (Expected w.from want) word (stands.word w.from (text_of file w) ∙ ap (λ t. cond t (Ok qs) (Err (Expected w.from want))) other)
 
-pub variables_word_stops : (file : List ℕ) (w : Word) (a b : List Token) → AWord w a b → bytes_eq (text_of file w) (codes "variables") ≡ false → Faults file (variables_word ∷ []) a (Expected w.from wants.Variables)
-variables_word_stops file w a b word other = stops_word file variables_word w a b (Expected w.from wants.Variables) word (ap (λ t. cond t (Ok (first_variable ∷ [])) (Err (Expected w.from wants.Variables))) other)
-
-pub variables_word_goes : (file : List ℕ) (w : Word) (a b : List Token) → Key file (codes "variables") w a b → Moves file (variables_word ∷ []) a (first_variable ∷ []) b
-variables_word_goes file w a b key = goes_word file variables_word (first_variable ∷ []) w a b key.word (ap (λ t. cond t (Ok (first_variable ∷ [])) (Err (Expected w.from wants.Variables))) key.says.is)
+  keyword_goes : (w : Word) (a b : List Token) → Key file keyword w a b → Moves file (p ∷ []) a qs b
+  keyword_goes w a b key = goes_word file p qs w a b key.word (stands.word w.from (text_of file w) ∙ ap (λ t. cond t (Ok qs) (Err (Expected w.from want))) key.says.is)
 
 pub file_only : Only file_begins Open wants.Variables
-file_only = record { others = other; at_end = λ end ps. refl }
-  where
-    other : (k : Kind) (at : ℕ) (text : List ℕ) → (k ≡ Open → ⊥) → takes file_begins k at text ≡ Err (Expected at wants.Variables)
-    other Open at text differs = absurd (differs refl)
-    other k at text differs = refl
+file_only = only_open file_begins wants.Variables (λ at text. refl) (λ at text. refl) (λ at text. refl) (λ at text. refl) (λ end ps. refl)
 
 -- ---- sums
 
 pub plus_only : Only plus_sign WordKind wants.Plus
-plus_only = record { others = other; at_end = λ end ps. refl }
-  where
-    other : (k : Kind) (at : ℕ) (text : List ℕ) → (k ≡ WordKind → ⊥) → takes plus_sign k at text ≡ Err (Expected at wants.Plus)
-    other WordKind at text differs = absurd (differs refl)
-    other k at text differs = refl
+plus_only = only_word plus_sign wants.Plus (λ at text. refl) (λ at text. refl) (λ at text. refl) (λ at text. refl) (λ end ps. refl)
 
 plus_is : (at : ℕ) (text : List ℕ) → bytes_eq text (codes "+") ≡ true → plus_step at text ≡ Ok (tree Reward 0 ∷ more_parts ∷ [])
 unfolding plus_step
@@ -346,11 +309,7 @@ plus_goes file w a b key = goes_word file plus_sign (tree Reward 0 ∷ more_part
 -- ---- settings
 
 pub setting_only : (q : Quantity) → Only (number q) WordKind wants.Number
-setting_only q = record { others = other; at_end = λ end ps. refl }
-  where
-    other : (k : Kind) (at : ℕ) (text : List ℕ) → (k ≡ WordKind → ⊥) → takes (number q) k at text ≡ Err (Expected at wants.Number)
-    other WordKind at text differs = absurd (differs refl)
-    other k at text differs = refl
+setting_only q = only_word (number q) wants.Number (λ at text. refl) (λ at text. refl) (λ at text. refl) (λ at text. refl) (λ end ps. refl)
 
 pub setting_stops : (file : List ℕ) (q : Quantity) (w : Word) (a b : List Token) (f : Refusal) → AWord w a b → Err f ≡ number_of q w.from (text_of file w) → Faults file (number q ∷ []) a f
 setting_stops file q w a b f word found = stops_word file (number q) w a b f word (then_err (number_of q w.from (text_of file w)) (Ok []) f (sym found))
@@ -548,11 +507,7 @@ item_other LeftOutItem a b d = absurd (d refl)
 item_other ATable a b d = refl
 
 pub item_only : (c : Counts) → Only (item c) WordKind wants.Name
-item_only c = record { others = other; at_end = λ end ps. refl }
-  where
-    other : (k : Kind) (at : ℕ) (text : List ℕ) → (k ≡ WordKind → ⊥) → takes (item c) k at text ≡ Err (Expected at wants.Name)
-    other WordKind at text differs = absurd (differs refl)
-    other k at text differs = refl
+item_only c = only_word (item c) wants.Name (λ at text. refl) (λ at text. refl) (λ at text. refl) (λ at text. refl) (λ end ps. refl)
 
 cost_goes : (file : List ℕ) (c : Counts) (w : Word) (a b : List Token) → AWord w a b → item_word (text_of file w) ≡ Cost → Moves file (item c ∷ []) a (part ∷ item c ∷ []) b
 cost_goes file c w a b word is = goes_word file (item c) (part ∷ item c ∷ []) w a b word (ap (λ (k : ItemWord). item_step c w.from (text_of file w) k) is)
@@ -617,7 +572,7 @@ body_moves file c w (sections.Dd name shape) a b e word is =
     let behind = section (one_dd c) ∷ [] in
     then_moves file _ (dd_name c.dds ∷ tree Diagram 0 ∷ dd_end ∷ behind) _ a b e (section_goes file c w a b Dd _ word is.3 refl)
     (then_moves file _ (dd_end ∷ behind) _ b is.1 e (moves_more file behind (dd_name c.dds ∷ tree Diagram 0 ∷ dd_end ∷ []) (dd_end ∷ []) b is.1 (dd_moves file c.dds name shape b is.0 is.1 is.4 is.5 is.6))
-    (moves_more file behind (dd_end ∷ []) [] is.1 e (enddd_goes file is.2 is.1 e is.7)))
+    (moves_more file behind (dd_end ∷ []) [] is.1 e (keyword_goes file dd_end (codes "enddd") wants.EndDd [] enddd_at is.2 is.1 e is.7)))
 body_moves file c w (sections.Action name its end) a b e word is =
     then_moves file _ (action_name c.actions ∷ item (one_action c) ∷ []) _ a b e (section_goes file c w a b Action _ word is.1 refl)
     (then_moves file _ (item (one_action c) ∷ []) _ b is.0 e
@@ -683,18 +638,21 @@ file_opens file a b one = goes file file_begins (variables_word ∷ []) Open a b
 variables_close : (file : List ℕ) (k : Counts) (a b : List Token) → One Close a b → Moves file (more_variables k ∷ []) a (section k ∷ []) b
 variables_close file k a b one = goes file (more_variables k) (section k ∷ []) Close a b one (λ at text. refl)
 
+variables_goes : (file : List ℕ) (w : Word) (a b : List Token) → Key file (codes "variables") w a b → Moves file (variables_word ∷ []) a (first_variable ∷ []) b
+variables_goes file w a b key = keyword_goes file variables_word (codes "variables") wants.Variables (first_variable ∷ []) variables_at w a b key
+
 pub file_variables_word : (file : List ℕ) (a b : List Token) (f : Refusal) → One Open a b → Faults file (variables_word ∷ []) b f → Faults file (file_begins ∷ []) a f
 file_variables_word file a b f one faults = faults_after file _ (variables_word ∷ []) a b f (file_opens file a b one) faults
 
 pub file_variables : (file : List ℕ) (w : Word) (a b d : List Token) (u : Unread) → One Open a b → Key file (codes "variables") w b d → Fails file (first_variable ∷ []) d u → Fails file (file_begins ∷ []) a u
 file_variables file w a b d u one key fails =
-    fails_after file _ (first_variable ∷ []) a d u (then_moves file _ (variables_word ∷ []) _ a b d (file_opens file a b one) (variables_word_goes file w b d key)) fails
+    fails_after file _ (first_variable ∷ []) a d u (then_moves file _ (variables_word ∷ []) _ a b d (file_opens file a b one) (variables_goes file w b d key)) fails
 
 to_sections : (file : List ℕ) (w : Word) (k : Counts) (vs : List Variable) (a b d e m : List Token) → One Open a b → Key file (codes "variables") w b d → AreVariables file none_yet vs k d e → 0 < length vs → One Close e m
     → Moves file (file_begins ∷ []) a (section k ∷ []) m
 to_sections file w k vs a b d e m one key are some close =
     then_moves file _ (variables_word ∷ []) _ a b m (file_opens file a b one)
-    (then_moves file _ (first_variable ∷ []) _ b d m (variables_word_goes file w b d key)
+    (then_moves file _ (first_variable ∷ []) _ b d m (variables_goes file w b d key)
     (then_moves file _ (more_variables k ∷ []) _ d e m (first_move file k vs d e are some) (variables_close file k e m close)))
 
 pub file_sections : (file : List ℕ) (w : Word) (k : Counts) (vs : List Variable) (a b d e m : List Token) (u : Unread) → One Open a b → Key file (codes "variables") w b d → AreVariables file none_yet vs k d e → 0 < length vs → One Close e m

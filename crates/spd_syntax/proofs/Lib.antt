@@ -1,5 +1,5 @@
 mod Rows
-mod Moves
+pub mod Moves
 mod TreeMoves
 pub mod FileMoves
 pub mod Accepted

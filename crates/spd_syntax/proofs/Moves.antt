@@ -1,9 +1,9 @@
 -- How tokens move the first fault: from what is next before them to what is next behind them.
-use Rattle.std.proofs.Common.{◌≡◌, ℕ, ◌+◌, List, [], ◌∷◌, ◌++◌, length, Some, Ok, Err, Result, sym, ap, subst, ◌∙◌, arith, append_assoc}
+use Rattle.std.proofs.Common.{◌≡◌, ℕ, ◌+◌, List, [], ◌∷◌, ◌++◌, length, Some, Ok, Err, Result, refl, sym, ap, subst, ◌∙◌, arith, append_assoc}
 use Rattle.std.specs.Prelude.{IfErr, IsErrAnd}
 use Rattle.spd_lex.specs.declared.token.Token.{Token}
 use Rattle.spd_lex.specs.declared.token.Kind.{Kind}
-use Rattle.spd_lex.specs.declared.token.Kind.TheVariants.{Word as WordKind}
+use Rattle.spd_lex.specs.declared.token.Kind.TheVariants.{Open, Close, OpenSum, CloseSum, Word as WordKind}
 use Rattle.spd_syntax.specs.declared.file.Word.{Word}
 use Rattle.spd_syntax.specs.declared.refusal.Refusal.{Refusal}
 use Rattle.spd_syntax.specs.declared.refusal.Refusal.TheVariants.{Expected}
@@ -13,7 +13,7 @@ use Rattle.spd_syntax.specs.declared.unread.Unread.TheVariants.{Refused, Memory}
 use Rattle.spd_syntax.specs.Words.{text_of}
 use Rattle.spd_syntax.specs.Positions.{Position, takes, fault_step, fault_from, end_fault, ◌then◌}
 use Rattle.spd_syntax.specs.Grammar.{One, AWord}
-use Rattle.spd_syntax.specs.Reading.{Faults, Fails, here, Lacks, Misses}
+use Rattle.spd_syntax.specs.Reading.{Faults, Fails, Only, here, Lacks, Misses}
 
 -- The tokens between a and b let the file go on: where these positions were next, those are.
 pub record Moves (file : List ℕ) (ps : List Position) (a : List Token) (qs : List Position) (b : List Token) : Type 0 where
@@ -88,10 +88,45 @@ stops_one file p kind a b f one h = record {
       ∙ ap (fault_step (λ rs. fault_from file (rs ++ behind) b)) (ap (λ (k : Kind). takes p k one.token.from (text_of file w)) one.kind ∙ h one.token.from (text_of file w));
 }
 
--- the only kind of token with which a position goes on
-pub record Only (p : Position) (kind : Kind) (want : Want) : Type 0 where
-  pub others : (k : Kind) (at : ℕ) (text : List ℕ) → (k ≡ kind → ⊥) → takes p k at text ≡ Err (Expected at want)
-  pub at_end : (end : ℕ) (ps : List Position) → end_fault end (p ∷ ps) ≡ Some (Expected end want)
+-- ---- the only kind of token with which a position goes on
+
+-- no token of this kind goes on at this position
+abbrev pub Stops : Position → Want → Kind → Type 0
+Stops p want k = (at : ℕ) (text : List ℕ) → takes p k at text ≡ Err (Expected at want)
+
+-- nor does the end of the file
+abbrev pub Ends : Position → Want → Type 0
+Ends p want = (end : ℕ) (ps : List Position) → end_fault end (p ∷ ps) ≡ Some (Expected end want)
+
+pub only_word : (p : Position) (want : Want) → Stops p want Open → Stops p want Close → Stops p want OpenSum → Stops p want CloseSum → Ends p want → Only p WordKind want
+only_word p want opens closes opens_sum closes_sum ends = record { others = other; at_end = ends }
+  where
+    other : (k : Kind) (at : ℕ) (text : List ℕ) → (k ≡ WordKind → ⊥) → takes p k at text ≡ Err (Expected at want)
+    other WordKind at text differs = absurd (differs refl)
+    other Open at text differs = opens at text
+    other Close at text differs = closes at text
+    other OpenSum at text differs = opens_sum at text
+    other CloseSum at text differs = closes_sum at text
+
+pub only_open : (p : Position) (want : Want) → Stops p want Close → Stops p want OpenSum → Stops p want CloseSum → Stops p want WordKind → Ends p want → Only p Open want
+only_open p want closes opens_sum closes_sum word ends = record { others = other; at_end = ends }
+  where
+    other : (k : Kind) (at : ℕ) (text : List ℕ) → (k ≡ Open → ⊥) → takes p k at text ≡ Err (Expected at want)
+    other Open at text differs = absurd (differs refl)
+    other Close at text differs = closes at text
+    other OpenSum at text differs = opens_sum at text
+    other CloseSum at text differs = closes_sum at text
+    other WordKind at text differs = word at text
+
+pub only_close : (p : Position) (want : Want) → Stops p want Open → Stops p want OpenSum → Stops p want CloseSum → Stops p want WordKind → Ends p want → Only p Close want
+only_close p want opens opens_sum closes_sum word ends = record { others = other; at_end = ends }
+  where
+    other : (k : Kind) (at : ℕ) (text : List ℕ) → (k ≡ Close → ⊥) → takes p k at text ≡ Err (Expected at want)
+    other Close at text differs = absurd (differs refl)
+    other Open at text differs = opens at text
+    other OpenSum at text differs = opens_sum at text
+    other CloseSum at text differs = closes_sum at text
+    other WordKind at text differs = word at text
 
 stopped : (file : List ℕ) (p : Position) (behind : List Position) (kind : Kind) (want : Want) (ts : List Token) → Only p kind want → Lacks kind ts
     → fault_from file (p ∷ behind) ts ≡ Some (Expected (here file ts) want)

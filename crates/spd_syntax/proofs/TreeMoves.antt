@@ -18,52 +18,28 @@ use Rattle.spd_syntax.specs.Numbers.{number_of}
 use Rattle.spd_syntax.specs.Words.{text_of, name_passes, value_passes, is_number_word, is_primed, front_of, unmarked}
 use Rattle.spd_syntax.specs.Positions.{tree, inside, after_number, after_primed, branch_value, branch_end, more_branches, takes, fault_step, fault_from, ◌then◌, inside_step}
 use Rattle.spd_syntax.specs.Grammar.{One, AWord, IsValue, IsHead, IsTree, IsInside, IsSome, AreBranches, IsBranch, HaveBranches}
-use Rattle.spd_syntax.specs.Reading.{Faults, Fails, here, Lacks, Misses, behind_head}
-use Rattle.spd_syntax.proofs.Moves.{Moves, stay, then_moves, moves_more, fails_more, faults_more, faults_after, fails_after, goes, goes_word, stops_word, stops_one, Only, misses, then_ok, then_err}
+use Rattle.spd_syntax.specs.Reading.{Faults, Fails, Only, here, Lacks, Misses, behind_head}
+use Rattle.spd_syntax.proofs.Moves.{Moves, stay, then_moves, moves_more, fails_more, faults_more, faults_after, fails_after, goes, goes_word, stops_word, stops_one, only_word, only_open, only_close, misses, then_ok, then_err}
 
 -- ---- with which kind of token a position goes on
 
 pub tree_only : (q : Quantity) (n : ℕ) → Only (tree q n) Open wants.Open
-tree_only q n = record { others = other; at_end = λ end ps. refl }
-  where
-    other : (k : Kind) (at : ℕ) (text : List ℕ) → (k ≡ Open → ⊥) → takes (tree q n) k at text ≡ Err (Expected at wants.Open)
-    other Open at text differs = absurd (differs refl)
-    other k at text differs = refl
+tree_only q n = only_open (tree q n) wants.Open (λ at text. refl) (λ at text. refl) (λ at text. refl) (λ at text. refl) (λ end ps. refl)
 
 pub inside_only : (q : Quantity) (n : ℕ) → Only (inside q n) WordKind wants.Name
-inside_only q n = record { others = other; at_end = λ end ps. refl }
-  where
-    other : (k : Kind) (at : ℕ) (text : List ℕ) → (k ≡ WordKind → ⊥) → takes (inside q n) k at text ≡ Err (Expected at wants.Name)
-    other WordKind at text differs = absurd (differs refl)
-    other k at text differs = refl
+inside_only q n = only_word (inside q n) wants.Name (λ at text. refl) (λ at text. refl) (λ at text. refl) (λ at text. refl) (λ end ps. refl)
 
 pub value_only : (q : Quantity) (n : ℕ) → Only (branch_value q n) WordKind wants.Value
-value_only q n = record { others = other; at_end = λ end ps. refl }
-  where
-    other : (k : Kind) (at : ℕ) (text : List ℕ) → (k ≡ WordKind → ⊥) → takes (branch_value q n) k at text ≡ Err (Expected at wants.Value)
-    other WordKind at text differs = absurd (differs refl)
-    other k at text differs = refl
+value_only q n = only_word (branch_value q n) wants.Value (λ at text. refl) (λ at text. refl) (λ at text. refl) (λ at text. refl) (λ end ps. refl)
 
 pub number_only : Only after_number Close wants.Close
-number_only = record { others = other; at_end = λ end ps. refl }
-  where
-    other : (k : Kind) (at : ℕ) (text : List ℕ) → (k ≡ Close → ⊥) → takes after_number k at text ≡ Err (Expected at wants.Close)
-    other Close at text differs = absurd (differs refl)
-    other k at text differs = refl
+number_only = only_close after_number wants.Close (λ at text. refl) (λ at text. refl) (λ at text. refl) (λ at text. refl) (λ end ps. refl)
 
 pub end_only : Only branch_end Close wants.Close
-end_only = record { others = other; at_end = λ end ps. refl }
-  where
-    other : (k : Kind) (at : ℕ) (text : List ℕ) → (k ≡ Close → ⊥) → takes branch_end k at text ≡ Err (Expected at wants.Close)
-    other Close at text differs = absurd (differs refl)
-    other k at text differs = refl
+end_only = only_close branch_end wants.Close (λ at text. refl) (λ at text. refl) (λ at text. refl) (λ at text. refl) (λ end ps. refl)
 
 primed_only : (q : Quantity) (n : ℕ) → Only (after_primed q n) Open wants.Open
-primed_only q n = record { others = other; at_end = λ end ps. refl }
-  where
-    other : (k : Kind) (at : ℕ) (text : List ℕ) → (k ≡ Open → ⊥) → takes (after_primed q n) k at text ≡ Err (Expected at wants.Open)
-    other Open at text differs = absurd (differs refl)
-    other k at text differs = refl
+primed_only q n = only_open (after_primed q n) wants.Open (λ at text. refl) (λ at text. refl) (λ at text. refl) (λ at text. refl) (λ end ps. refl)
 
 -- ---- single steps
 

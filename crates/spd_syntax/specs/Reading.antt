@@ -1,5 +1,5 @@
 -- What a reader of tokens answers, in the words of the grammar and of the first fault.
-use Rattle.std.specs.Prelude.{ℕ, Bool, true, false, List, [], ◌∷◌, ◌++◌, length, Option, Some, None, Result, Ok, Err, ◌≡◌}
+use Rattle.std.specs.Prelude.{ℕ, Bool, true, false, List, [], ◌∷◌, ◌++◌, length, Option, Some, None, Result, Ok, Err, ◌≡◌, if◌then◌else◌, bytes_eq}
 use Rattle.spd_lex.specs.declared.token.Token.{Token}
 use Rattle.spd_lex.specs.declared.token.Kind.{Kind}
 use Rattle.spd_lex.specs.declared.token.Kind.TheVariants.{Word}
@@ -49,13 +49,22 @@ abbrev pub behind_head : Quantity → ℕ → Bool → Position
 behind_head q n true = after_primed q n
 behind_head q n false = more_branches q n
 
--- ---- names that are declared
+-- the only kind of token with which a position goes on
+pub record Only (p : Position) (kind : Kind) (want : Want) : Type 0 where
+  pub others : (k : Kind) (at : ℕ) (text : List ℕ) → (k ≡ kind → ⊥) → takes p k at text ≡ Err (Expected at want)
+  pub at_end : (end : ℕ) (ps : List Position) → end_fault end (p ∷ ps) ≡ Some (Expected end want)
+
+-- ---- names that are declared, and words of the grammar
 
 -- a NAME stands next at this position, of which there are `count` where at most `most` may be
 pub record NamesAt (p : Position) (what : What) (most count : ℕ) (qs : List Position) : Type 0 where
-  pub others : (k : Kind) (at : ℕ) (text : List ℕ) → (k ≡ Word → ⊥) → takes p k at text ≡ Err (Expected at wants.Name)
-  pub at_end : (end : ℕ) (ps : List Position) → end_fault end (p ∷ ps) ≡ Some (Expected end wants.Name)
+  pub only : Only p Word wants.Name
   pub word : (at : ℕ) (text : List ℕ) → takes p Word at text ≡ (name_passes wants.Name at text then counted what most count at (Ok qs))
+
+-- this word of the grammar stands next at this position
+pub record KeywordAt (p : Position) (keyword : List ℕ) (want : Want) (qs : List Position) : Type 0 where
+  pub only : Only p Word want
+  pub word : (at : ℕ) (text : List ℕ) → takes p Word at text ≡ (if bytes_eq text keyword then Ok qs else Err (Expected at want))
 
 -- a further value of a variable, of which so many values and tests were read
 abbrev pub value_judged : ℕ → ℕ → ℕ → List ℕ → Result (Unit {0}) Refusal

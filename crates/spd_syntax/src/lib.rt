@@ -24,6 +24,4 @@ pub use refusal::{Refusal, Want, What};
 pub use sections::{ItemWord, SectionWord};
 pub use syntax::read_syntax;
 pub use unread::Unread;
-
-#[cfg(test)]
-mod tests;
+pub use words::text_of;

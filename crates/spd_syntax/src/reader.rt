@@ -1,13 +1,16 @@
 //! Single tokens: brackets and words, and what is missing where none of them stands.
 
-ghost use Rattle.std.specs.Prelude.{◌≡◌, ◌<◌, ◌+◌, ◌==◌, length, IfOk, IfErr, MatchOption, Ok, Err, List};
+ghost use Rattle.std.specs.Prelude.{◌≡◌, ◌<◌, ◌+◌, ◌==◌, ◌∷◌, [], length, IfOk, IfErr, MatchOption, Ok, Err, List};
+ghost use Rattle.spd_syntax.specs.declared.file.Word.{Word as WordValue};
 ghost use Rattle.spd_syntax.specs.Words.{text_of};
+ghost use Rattle.spd_syntax.specs.Positions.{Position};
 ghost use Rattle.spd_syntax.specs.Grammar.{One, AWord};
-ghost use Rattle.spd_syntax.specs.Reading.{here, Lacks, Misses};
+ghost use Rattle.spd_syntax.specs.Files.{Key};
+ghost use Rattle.spd_syntax.specs.Reading.{Faults, KeywordAt, here, Lacks, Misses};
 
 use crate::file::Word;
 use crate::refusal::{Refusal, Want};
-use crate::words::text_of;
+use crate::words::{says, text_of};
 use spd_lex::{Kind, Token};
 use std::alloc::Global;
 
@@ -75,6 +78,26 @@ impl Reader<'_> {
             )),
             _ => Err(self.expected(want, tokens)),
         }
+    }
+
+    /// The tokens behind this word of the grammar, where it stands first.
+    pub(crate) fn keyword<'t>(
+        &self,
+        keyword: &[u8],
+        want: Want,
+        tokens: &'t [Token],
+    ) -> Result<&'t [Token], Refusal>
+        ensures ok { IfOk result (λ rest. (w : WordValue) × Key self.now.file.now keyword.now w tokens.now rest.now) }
+        ensures err { IfErr result (λ f. (p : Position) (qs : List Position) → KeywordAt p keyword.now want qs → Faults self.now.file.now (p ∷ []) tokens.now f) }
+    {
+        let (word, rest) = self.word(want, tokens)?;
+        if !says(self.text(word), keyword) {
+            return Err(Refusal::Expected {
+                at: word.from as usize,
+                want,
+            });
+        }
+        Ok(rest)
     }
 
     /// The bytes of a word.

@@ -5,7 +5,7 @@ ghost use Rattle.spd_lex.specs.declared.token.Token.{Token as TokenValue};
 ghost use Rattle.spd_syntax.specs.declared.file.Counts.{Counts as CountsValue};
 ghost use Rattle.spd_syntax.specs.declared.file.Word.{Word as WordValue};
 ghost use Rattle.spd_syntax.specs.Words.{text_of};
-ghost use Rattle.spd_syntax.specs.Positions.{section, dd_name, dd_end, action_name, item, part, plus_sign, more_parts, tree, number, section_word, item_word, after_setting, has_all};
+ghost use Rattle.spd_syntax.specs.Positions.{section, dd_name, action_name, item, part, plus_sign, more_parts, tree, number, section_word, item_word, after_setting, has_all};
 ghost use Rattle.spd_syntax.specs.Grammar.{AWord, IsTree, IsNumber};
 ghost use Rattle.spd_syntax.specs.Files.{Key, AName, APart, AnItem, AreItems, IsBody, ASection, AreSections, after_section, AreTrees, IsSum};
 ghost use Rattle.spd_syntax.specs.Reading.{Faults, Fails, Lacks, body_positions};
@@ -132,21 +132,6 @@ fn after_section(counts: Counts, section: &Section) -> Counts
 }
 
 impl Reader<'_> {
-    /// The word `enddd`.
-    fn enddd<'t>(&self, tokens: &'t [Token]) -> Result<&'t [Token], Refusal>
-        ensures ok { IfOk result (λ rest. (w : WordValue) × Key self.now.file.now (codes "enddd") w tokens.now rest.now) }
-        ensures err { IfErr result (Faults self.now.file.now (dd_end ∷ []) tokens.now) }
-    {
-        let (word, rest) = self.word(Want::EndDd, tokens)?;
-        if !says(self.text(word), b"enddd") {
-            return Err(Refusal::Expected {
-                at: word.from as usize,
-                want: Want::EndDd,
-            });
-        }
-        Ok(rest)
-    }
-
     /// A decision diagram behind `dd`.
     fn dd<'t>(&self, counts: Counts, tokens: &'t [Token]) -> Result<(Section, &'t [Token]), Unread>
         ensures ok { IfOk result (λ x. (w : WordValue) → IsBody self.now.file.now counts SectionWord.Dd w x.0 tokens.now x.1.now) }
@@ -155,7 +140,7 @@ impl Reader<'_> {
     {
         let (name, rest) = self.declared(What::Dds, 4096, counts.dds, tokens)?;
         let (tree, rest) = self.tree(Quantity::Diagram, 0, rest)?;
-        let rest = self.enddd(rest)?;
+        let rest = self.keyword(b"enddd", Want::EndDd, rest)?;
         Ok((Section::Dd { name, tree }, rest))
     }
 

@@ -1,42 +1,25 @@
 //! A whole file.
 
-ghost use Rattle.std.specs.Prelude.{◌≡◌, ◌∷◌, [], IfOk, IfErr, codes};
-ghost use Rattle.spd_syntax.specs.declared.file.Word.{Word as WordValue};
-ghost use Rattle.spd_syntax.specs.Positions.{file_begins, variables_word};
-ghost use Rattle.spd_syntax.specs.Files.{Key, IsFile, IsWritten};
-ghost use Rattle.spd_syntax.specs.Reading.{Faults, Fails, TellsFault};
+ghost use Rattle.std.specs.Prelude.{◌∷◌, [], IfOk, IfErr};
+ghost use Rattle.spd_syntax.specs.Positions.{file_begins};
+ghost use Rattle.spd_syntax.specs.Files.{IsFile, IsWritten};
+ghost use Rattle.spd_syntax.specs.Reading.{Fails, TellsFault};
 
 use crate::file::File;
 use crate::reader::Reader;
 use crate::refusal::{Refusal, Want};
 use crate::unread::Unread;
-use crate::words::says;
 use spd_lex::{Kind, Lex, Token, tokens};
 use std::alloc::Global;
 
 impl Reader<'_> {
-    /// The word `variables`.
-    fn variables_word<'t>(&self, tokens: &'t [Token]) -> Result<&'t [Token], Refusal>
-        ensures ok { IfOk result (λ rest. (w : WordValue) × Key self.now.file.now (codes "variables") w tokens.now rest.now) }
-        ensures err { IfErr result (Faults self.now.file.now (variables_word ∷ []) tokens.now) }
-    {
-        let (word, rest) = self.word(Want::Variables, tokens)?;
-        if !says(self.text(word), b"variables") {
-            return Err(Refusal::Expected {
-                at: word.from as usize,
-                want: Want::Variables,
-            });
-        }
-        Ok(rest)
-    }
-
     /// A file of these tokens.
     fn whole(&self, tokens: &[Token]) -> Result<File, Unread>
         ensures ok { IfOk result (λ f. IsFile self.now.file.now f tokens.now) }
         ensures err { IfErr result (Fails self.now.file.now (file_begins ∷ []) tokens.now) }
     {
         let rest = self.bracket(Kind::Open, Want::Variables, tokens)?;
-        let rest = self.variables_word(rest)?;
+        let rest = self.keyword(b"variables", Want::Variables, rest)?;
         let (variables, counts, rest) = self.variables(rest)?;
         let sections = self.sections(counts, rest)?;
         Ok(File {

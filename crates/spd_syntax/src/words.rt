@@ -189,7 +189,7 @@ pub(crate) fn unmarked(primed: bool, word: Word) -> Word
 }
 
 /// The bytes of a word, as far as the file has them.
-pub(crate) fn text_of(file: &[u8], word: Word) -> &[u8]
+pub fn text_of(file: &[u8], word: Word) -> &[u8]
     ensures { result.now ≡ text_of file.now word }
 {
     let (_, back) = file.split_at(file.len().min(word.from as usize));

@@ -13,7 +13,7 @@ use Rattle.spd_words.specs.declared.expects.Expects.TheVariants.{Anything, Value
 use Rattle.spd_words.specs.Verbs.{key_named}
 use Rattle.spd_words.specs.Pieces.{Piece, pieces_of, option, value, is_option, halves, joined, option_pieces, word_pieces, behind_word, pieces_from, last_piece, place_of}
 use Rattle.spd_words.specs.Standing.{text_at, can_stand}
-use Rattle.spd_words.specs.Inner.Judging.{◌>>=◌, with_piece, judged_piece, judged, Stops, Judges, JudgesOption, Reads, nothing_said}
+use Rattle.spd_words.specs.Inner.Judging.{◌>>=◌, judged_piece, judged, Stops, Judges, JudgesOption, Reads, nothing_said}
 
 pub judged-next : (words : List (List ℕ)) (verb : Verb) (p : Piece) (ps : List Piece) (said mid : Said)
     → judged_piece words verb p said ≡ Ok mid → judged words verb (p ∷ ps) said ≡ judged words verb ps mid
@@ -159,11 +159,6 @@ place_of-last Anything n = refl
 place_of-last (Value key) n = refl
 place_of-last Operands n = refl
 
-with_piece-last : (expects : Expects) (n : ℕ) (said : Said) → with_piece (last_piece expects n) said ≡ said
-with_piece-last Anything n said = refl
-with_piece-last (Value key) n said = refl
-with_piece-last Operands n said = refl
-
 judged-end : (words : List (List ℕ)) (verb : Verb) (expects : Expects) (at : ℕ) (said : Said) → at ≡ length words
     → judged words verb (pieces_from expects at (drop at words)) said ≡ judged words verb (last_piece expects (length words) ∷ []) said
 judged-end words verb expects at said is =
@@ -176,13 +171,6 @@ pub end_stops : (words : List (List ℕ)) (verb : Verb) (expects : Expects) (at 
 end_stops words verb expects at said is short =
     judged-end words verb expects at said is
     ∙ judged-stop words verb (last_piece expects (length words)) [] said (length words) (rw (short) (ap (λ (n : ℕ). let r : Result Said ℕ = Err n in r) (place_of-last expects (length words))))
-
-pub end_goes : (words : List (List ℕ)) (verb : Verb) (expects : Expects) (at : ℕ) (said : Said) → at ≡ length words
-    → can_stand words verb said.operands said.given (last_piece expects (length words)) ≡ true
-    → judged words verb (pieces_from expects at (drop at words)) said ≡ Ok said
-end_goes words verb expects at said is whole =
-    judged-end words verb expects at said is
-    ∙ judged-next words verb (last_piece expects (length words)) [] said said (rw (whole) (ap (λ (s : Said). let r : Result Said ℕ = Ok s in r) (with_piece-last expects (length words) said)))
 
 pub err_exit : {X : Type 0} (P : WordsFault → Type 0) (r : Result X WordsFault) (u : WordsFault) → IsErrAnd r (λ (x : WordsFault). x ≡ u) → P u → IfErr r P
 err_exit P (Ok x) u is h = tt

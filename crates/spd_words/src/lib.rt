@@ -20,6 +20,3 @@ pub use command::{Command, Pair, Pairs};
 pub use fault::WordsFault;
 pub use text::text_at;
 pub use words::{law_one_answer, read_words};
-
-#[cfg(test)]
-mod tests;

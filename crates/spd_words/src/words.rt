@@ -1,6 +1,6 @@
 //! Reading the words of a command.
 
-ghost use Rattle.std.specs.Prelude.{◌≡◌, ◌<◌, ◌≤◌, ◌⊎◌, ℕ, List, Ok, Err, drop, IfOk, IfErr, length};
+ghost use Rattle.std.specs.Prelude.{◌≡◌, ◌<◌, ◌≤◌, ◌⊎◌, ℕ, List, Ok, Err, drop, slice_index, IfOk, IfErr, length};
 ghost use Rattle.spd_words.specs.Commands.{IsCommand, IsUsage, IsFault, IsWithinLimits, pairs_of, size_of, command_from};
 ghost use Rattle.spd_words.specs.declared.command.Command.{Command as CommandValue};
 ghost use Rattle.spd_words.specs.Inner.Judging.{Reads};
@@ -42,12 +42,44 @@ fn pairs_behind(operands: &[usize]) -> Pairs
     }
 }
 
+/// The operand of this number, or 0 where there is none.
+fn operand_at(operands: &[usize], at: usize) -> usize
+    ensures { result ≡ slice_index operands.now at }
+{
+    operands.get(at).copied().unwrap_or(0)
+}
+
 /// The number that the operand is.
 fn size_of(words: &[Word], operands: &[usize]) -> u32
     ensures { result ≡ size_of words.now operands.now }
 {
-    let at = operands.first().copied().unwrap_or(0);
-    number_in(2, 63, text_at(words, at)).unwrap_or(0)
+    number_in(2, 63, text_at(words, operand_at(operands, 0))).unwrap_or(0)
+}
+
+/// The command `ask` of what the words say.
+fn ask(said: &Said) -> Command
+    ensures { (words : List (List ℕ)) → result ≡ command_from words Verb.Ask said.now.operands said.now.given }
+{
+    let operands = said.operands.as_slice();
+    Command::Ask {
+        file: operand_at(operands, 0),
+        pairs: pairs_behind(operands),
+        options: said.given.options(),
+    }
+}
+
+/// The command `evaluate` of what the words say.
+fn evaluate(said: &Said) -> Command
+    ensures { (words : List (List ℕ)) → result ≡ command_from words Verb.Evaluate said.now.operands said.now.given }
+{
+    let operands = said.operands.as_slice();
+    Command::Evaluate {
+        file: operand_at(operands, 0),
+        cert: operand_at(operands, 1),
+        rounds: said.given.rounds,
+        sweeps: said.given.sweeps(),
+        options: said.given.options(),
+    }
 }
 
 /// The command of what the words say.
@@ -55,16 +87,12 @@ fn command_from(words: &[Word], verb: Verb, said: &Said) -> Command
     ensures { result ≡ command_from words.now verb said.now.operands said.now.given }
 {
     let operands = said.operands.as_slice();
-    let file = operands.first().copied().unwrap_or(0);
-    let second = operands.get(1).copied().unwrap_or(0);
+    let file = operand_at(operands, 0);
+    let second = operand_at(operands, 1);
     let options = said.given.options();
     match verb {
         Verb::Solve => Command::Solve { file, options },
-        Verb::Ask => Command::Ask {
-            file,
-            pairs: pairs_behind(operands),
-            options,
-        },
+        Verb::Ask => ask(said),
         Verb::Check => Command::Check {
             file,
             cert: second,
@@ -88,13 +116,7 @@ fn command_from(words: &[Word], verb: Verb, said: &Said) -> Command
             steps: said.given.steps,
             options,
         },
-        Verb::Evaluate => Command::Evaluate {
-            file,
-            cert: second,
-            rounds: said.given.rounds,
-            sweeps: said.given.sweeps(),
-            options,
-        },
+        Verb::Evaluate => evaluate(said),
         Verb::Bounded => Command::Bounded {
             file,
             upper: second,

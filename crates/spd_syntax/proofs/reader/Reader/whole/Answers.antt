@@ -1,9 +1,9 @@
 use Rattle.std.proofs.Common.{◌∷◌, [], arith}
 use Rattle.spd_lex.specs.declared.token.Kind.TheVariants.{Open}
 use Rattle.spd_syntax.specs.declared.refusal.Want.TheVariants as wants
-use Rattle.spd_syntax.specs.Positions.{file_begins, none_yet}
+use Rattle.spd_syntax.specs.Positions.{file_begins, variables_word, first_variable, none_yet}
 use Rattle.spd_syntax.proofs.Moves.{refused_exit, same_exit, misses}
-use Rattle.spd_syntax.proofs.FileMoves.{file_only, file_variables_word, file_variables, file_sections, variables_keep}
+use Rattle.spd_syntax.proofs.FileMoves.{file_only, variables_at, file_variables_word, file_variables, file_sections, variables_keep}
 use Rattle.spd_syntax.proofs.reader.Reader.whole.Goals as goal
 
 pub returns-in_err-rest-clause-err : goal.returns-in_err-rest-clause-err
@@ -17,7 +17,7 @@ returns-in_err-rest-2-clause-err c =
     let file = c.args.self.now.file.now in
     let f = c.in_err-rest-2.field-0.0 in
     refused_exit file (file_begins ∷ []) c.args.tokens.now c.from_residual-in_err-rest-2.result f c.from_residual-in_err-rest-2.ensures.1
-    (file_variables_word file c.args.tokens.now c.in_ok-rest.rest.now f c.in_ok-rest.ensures.ok c.in_err-rest-2.ensures.err)
+    (file_variables_word file c.args.tokens.now c.in_ok-rest.rest.now f c.in_ok-rest.ensures.ok (c.in_err-rest-2.ensures.err variables_word (first_variable ∷ []) variables_at))
 
 pub returns-in_err-variables-clause-err : goal.returns-in_err-variables-clause-err
 returns-in_err-variables-clause-err c =

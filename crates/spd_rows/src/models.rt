@@ -1,5 +1,6 @@
-use super::*;
+//! The model that a file describes, and the faults of its names.
 use spd_model::Tree;
+use spd_reader::read_model;
 use spd_syntax::{Refusal, Unread};
 use std::test::Fail;
 

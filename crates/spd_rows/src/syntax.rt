@@ -1,5 +1,7 @@
-use super::*;
-use crate::words::text_of;
+//! The syntax of a file, part by part, and its first faults.
+use spd_syntax::{
+    Item, Quantity, Refusal, Section, Shape, Unread, Want, Word, read_syntax, text_of,
+};
 use std::test::Fail;
 
 const FILE: &[u8] = b"(variables (x yes no))

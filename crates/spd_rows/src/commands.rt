@@ -1,12 +1,13 @@
-use super::*;
-use spd_model::Options;
+//! The commands that words are, and the first word that can't stand.
+use spd_model::{Options, Word};
+use spd_words::{Command, WordsFault, read_words};
 use sqlite_items::Items;
 use std::alloc::{AllocError, Global};
 use std::process::Abort;
 use std::test::Fail;
 
 /// The words of a line, between single spaces.
-fn words_of(alloc: Global, line: &str) -> Result<Vec<spd_model::Word>, AllocError> {
+fn words_of(alloc: Global, line: &str) -> Result<Vec<Word>, AllocError> {
     let mut words = Vec::new(alloc);
     for word in line.split(' ') {
         words.push(Items::from_slice(alloc, word.as_bytes())?)?;
