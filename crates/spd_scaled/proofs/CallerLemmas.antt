@@ -1,5 +1,6 @@
--- What callers' proofs cite of whole numbers: products and order, rounded division, magnitudes, and the text of a number.
+-- What callers' proofs cite of whole numbers: products and order, rounded division, magnitudes, the text of a number, and digits read one by one.
 pub mod Ring
 pub mod DivisionLaws
 pub mod Magnitude
 pub mod UnitsLaws
+pub use Rattle.spd_scaled.proofs.DecimalParts.{AllDigits-list_all, digits_value_after-step}

@@ -1,6 +1,7 @@
 use Rattle.std.proofs.Common.{◌∙◌, arith}
 use Rattle.std.proofs.lemmas.Str.Parse.{digit_at}
-use Rattle.spd_words.proofs.Digits.{digits_value_after-step, pow-step, pow-nine}
+use Rattle.spd_scaled.proofs.CallerLemmas.{digits_value_after-step}
+use Rattle.spd_words.proofs.Digits.{pow-step, pow-nine}
 use Rattle.spd_words.proofs.value.digits_value.Goals as goal
 
 pub overflow_mul-read : goal.overflow_mul-read

@@ -2,7 +2,7 @@ use Rattle.std.proofs.Common.{◌≡◌, true, arith}
 use Rattle.std.specs.List.{list_all}
 use Rattle.std.specs.Char.{is_ascii_digit}
 use Rattle.std.proofs.lemmas.Bool.Decides.{nat_tests}
-use Rattle.spd_words.proofs.Digits.{AllDigits-list_all}
+use Rattle.spd_scaled.proofs.CallerLemmas.{AllDigits-list_all}
 use Rattle.spd_words.proofs.value.number_in.Goals as goal
 
 pub digits_value-number-requires-clause-digits : goal.digits_value-number-requires-clause-digits
