@@ -1,6 +1,6 @@
 -- Where a sum ends early: zero weights fall out, and one value that is left is the sum.
-use Rattle.std.proofs.Common.{◌≡◌, ℕ, zero, suc, ◌+◌, ◌-◌, ◌*◌, ◌/◌, ◌<◌, ◌≤◌, ◌⊎◌, inl, inr, ◌||◌, Bool, true, false, cond, List, [], ◌∷◌, map, length, set, get_or, drop, refl, sym, ◌∙◌, ap, subst, arith, ℤ, pos, ◌+ℤ◌, ◌*ℤ◌, ◌<ℤ◌}
-use Rattle.std.proofs.lemmas.Bool.{and_parts}
+use Rattle.std.proofs.Common.{◌≡◌, ℕ, zero, suc, ◌+◌, ◌-◌, ◌*◌, ◌/◌, ◌<◌, ◌≤◌, ◌⊎◌, inl, inr, Bool, true, false, cond, List, [], ◌∷◌, map, length, set, get_or, drop, refl, sym, ◌∙◌, ap, subst, arith, ℤ, pos, ◌+ℤ◌, ◌*ℤ◌, ◌<ℤ◌}
+use Rattle.std.proofs.lemmas.Bool.{and_parts, or_cases}
 use Rattle.std.proofs.lemmas.Bool.Decides.{Decides-int_eq}
 use Rattle.std.proofs.lemmas.Int.{ints}
 use Rattle.spd_scaled.proofs.CallerLemmas.Ring.{*ℤ_comm, +ℤ-*ℤ, zero-*ℤ}
@@ -43,10 +43,6 @@ products-alone x (w ∷ f ∷ ls) h =
       | inr q ↦ (let a : number_of f ≡ x = ap number_of q in rw (e, a) (sym d))
     ]
 
-pub either : (a b : Bool) → (a || b) ≡ true → (a ≡ true) ⊎ (b ≡ true)
-either true b h = inl refl
-either false b h = inr h
-
 -- where a value isn't a number, no weight is left
 weights-none : (a : Leaf) (ls : List Leaf) → is_value a ≡ false → AloneLeaf a ls → each_fits ls ≡ true → weights ls ≡ pos 0
 weights-none a [] v h f = refl
@@ -55,7 +51,7 @@ weights-none a (w ∷ b ∷ ls) v h f =
     let s = and_parts _ _ f in
     let q = and_parts (is_weight w) _ s.0 in
     let e : weights ls ≡ pos 0 = weights-none a ls v h.1 s.1 in
-    let z : number_of w ≡ pos 0 = elim (either _ _ q.1) [
+    let z : number_of w ≡ pos 0 = elim (or_cases _ _ q.1) [
       | inl i ↦ (Decides-int_eq (number_of w) (pos 0)).0 i
       | inr i ↦ elim h.0 [
         | inl k ↦ ap number_of k

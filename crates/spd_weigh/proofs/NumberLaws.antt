@@ -3,7 +3,7 @@ use Rattle.std.proofs.Common.{◌≡◌, ℕ, zero, suc, ◌+◌, ◌<◌, ◌�
 use Rattle.std.specs.Int.{w128}
 use Rattle.std.specs.Prelude.{int_le}
 use Rattle.std.specs.Ordering.{int_eq}
-use Rattle.std.proofs.lemmas.Bool.{and_parts}
+use Rattle.std.proofs.lemmas.Bool.{and_parts, or_cases}
 use Rattle.std.proofs.lemmas.Bool.Decides.{Decides-int_eq, nat_tests}
 use Rattle.std.proofs.lemmas.Int.{ints}
 use Rattle.spd_scaled.specs.Scaled.{IsWithin}
@@ -18,7 +18,6 @@ use Rattle.spd_gather.specs.Down.{last_leaf}
 use Rattle.spd_gather.specs.Lists.{trees_of}
 use Rattle.spd_weigh.specs.Leaves.{number_of, greatest_value}
 use Rattle.spd_weigh.specs.Summed.{products, weights, is_weight, is_value, each_fits}
-use Rattle.spd_weigh.proofs.EarlyLaws.{either}
 
 weight-positive : (w : Leaf) → is_weight w ≡ true → pos 0 ≤ℤ number_of w
 weight-positive (Num a) h = grind (arith, ints, nat_tests)
@@ -46,7 +45,7 @@ value-within (Act a) h = absurd (cc h)
 product-within : (w f : Leaf) → (is_weight w && (int_eq (number_of w) (pos 0) || is_value f)) ≡ true → IsWithin (number_of w *ℤ greatest_value) (number_of w *ℤ number_of f)
 product-within w f h =
     let s = and_parts (is_weight w) _ h in
-    elim (either _ _ s.1) [
+    elim (or_cases _ _ s.1) [
       | inl i ↦ (let z : number_of w ≡ pos 0 = (Decides-int_eq (number_of w) (pos 0)).0 i in rw z (rw (zero-*ℤ greatest_value, zero-*ℤ (number_of f)) (IsWithin_zero (pos 0) (omega (arith, ints)))))
       | inr i ↦ IsWithin-*ℤ (number_of w) greatest_value (number_of f) (weight-positive w s.0) (value-within f i)
     ]
