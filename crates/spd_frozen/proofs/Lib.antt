@@ -5,6 +5,9 @@ pub mod Reading
 pub mod UniqueLaws
 pub mod FollowLaws
 pub mod TableLaws
+pub mod SlotTrees
+pub mod TreeDiagrams
+pub mod MovedLaws
 pub mod FrozenLaws
 pub mod ToldLaws
 pub mod CallerLemmas

@@ -1,5 +1,6 @@
 pub mod Nodes
 pub mod Frozen
+pub mod Mixed
 pub mod Fits
 pub mod Told
 pub mod inner

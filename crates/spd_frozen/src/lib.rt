@@ -7,6 +7,7 @@
 
 mod frozen;
 mod iterate;
+mod mixed;
 mod node;
 mod table;
 #[cfg(test)]
@@ -15,6 +16,7 @@ mod unique;
 
 pub use frozen::Frozen;
 pub use iterate::{Iterate, Residual};
+pub use mixed::{Mixed, MixedNode};
 pub use node::Node;
 use std::alloc::AllocError;
 pub use table::of_table;
