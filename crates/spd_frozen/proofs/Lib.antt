@@ -8,6 +8,10 @@ pub mod TableLaws
 pub mod SlotTrees
 pub mod TreeDiagrams
 pub mod MovedLaws
+pub mod KidLaws
+pub mod FreezeLaws
+pub mod BranchLaws
+pub mod MixedLaws
 pub mod FrozenLaws
 pub mod ToldLaws
 pub mod CallerLemmas

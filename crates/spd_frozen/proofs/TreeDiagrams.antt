@@ -79,7 +79,7 @@ list_all-same d (e ∷ ds) h =
     let first : is_equal leaf_eq d e ≡ true = subst (λ (x : D). is_equal leaf_eq d x ≡ true) (sym (h 0 (omega arith))) (is_equal-refl d) in
     rw (first, list_all-same d ds (λ i q. h (suc i) (omega arith))) refl
 
-choice-same : (k : ℕ) (ds : List D) (x : D) → 0 < length ds → ((i : ℕ) → i < length ds → get_or ds i nothing ≡ x) → choice_of leaf_eq k ds ≡ x
+pub choice-same : (k : ℕ) (ds : List D) (x : D) → 0 < length ds → ((i : ℕ) → i < length ds → get_or ds i nothing ≡ x) → choice_of leaf_eq k ds ≡ x
 choice-same k [] x some h = absurd (omega arith)
 choice-same k (d ∷ ds) x some h =
     let e : d ≡ x = h 0 (omega arith) in
@@ -94,7 +94,7 @@ choice-cases k (d ∷ ds) some = go (list_all (is_equal leaf_eq d) ds) refl
     go true e = inr (λ i j p q. equal-at d ds i e p ∙ sym (equal-at d ds j e q))
     go false e = inl (kept-nodes k d ds e)
 
-at-value : (R : ℕ → D) (d v : ℕ) → v < d → get_or (map R (numbers_below d)) v nothing ≡ R v
+pub at-value : (R : ℕ → D) (d v : ℕ) → v < d → get_or (map R (numbers_below d)) v nothing ≡ R v
 at-value R d v h = get_or-map R (numbers_below d) v 0 nothing (omega (arith, length-numbers_below d)) ∙ ap R (get_or-numbers_below d v h)
 
 -- The tests of one slot are read as a choice, where trees with equal diagrams are equal.

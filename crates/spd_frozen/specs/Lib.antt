@@ -2,5 +2,6 @@ pub mod Nodes
 pub mod Frozen
 pub mod Mixed
 pub mod Fits
+pub mod Freezing
 pub mod Told
 pub mod inner

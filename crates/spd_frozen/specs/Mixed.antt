@@ -6,6 +6,8 @@ use Rattle.spd_nodes.specs.Levels.{slots, slot_of}
 use Rattle.spd_nodes.specs.States.{Function, plain_part, primed_part}
 use Rattle.spd_frozen.specs.declared.mixed.MixedNode.{MixedNode as StoredNode}
 use Rattle.spd_frozen.specs.declared.mixed.MixedNode.TheVariants as Stored
+use Rattle.spd_frozen.specs.declared.node.Node.{Node as PlainNode}
+use Rattle.spd_frozen.specs.declared.node.Node.TheVariants as Plain
 use Rattle.spd_frozen.specs.Frozen.{frozen_of}
 
 -- the node that a stored one stands for: a branch is on the slot of its variable
@@ -24,3 +26,8 @@ mixed_of sizes f = frozen_of (slots sizes) (λ p. f (plain_part p) (primed_part 
 abbrev pub on_plain_slot : Node Leaf → Node Leaf
 on_plain_slot (Node.leaf x) = Node.leaf x
 on_plain_slot (Node.branch var kids) = Node.branch (slot_of var false) kids
+
+-- a stored node with its branch on the same variable's present value
+abbrev pub plain_of : StoredNode → PlainNode
+plain_of (Stored.Leaf x) = Plain.Leaf x
+plain_of (Stored.Branch var primed kids) = Plain.Branch var kids

@@ -5,6 +5,7 @@
 //! model is one definition.
 #![tactic(auto)]
 
+mod freezing;
 mod frozen;
 mod iterate;
 mod mixed;
@@ -14,6 +15,7 @@ mod table;
 mod tests;
 mod unique;
 
+pub use freezing::{freeze, freeze_mixed};
 pub use frozen::Frozen;
 pub use iterate::{Iterate, Residual};
 pub use mixed::{Mixed, MixedNode};
