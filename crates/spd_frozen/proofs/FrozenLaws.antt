@@ -22,18 +22,18 @@ use Rattle.spd_frozen.proofs.FollowLaws.{reached_among-at}
 use Rattle.spd_model.proofs.CallerLemmas.Lists.{length-numbers_below, get_or-numbers_below, All-numbers_below}
 
 -- how many subtrees there are
-abbrev count : Subtrees Leaf → ℕ
+abbrev pub count : Subtrees Leaf → ℕ
 count none = 0
 count (also e es) = suc (count es)
 
 -- A diagram over variables of these sizes from `var` on, with such leaves: variables rise, and a branch has one subtree for each
 -- value of its variable.
 abbrev mutual
-  Suits : List ℕ → (Leaf → Type 0) → ℕ → D → Type 0
+  pub Suits : List ℕ → (Leaf → Type 0) → ℕ → D → Type 0
   Suits sizes P var (Diagram.leaf x) = P x
   Suits sizes P var (Diagram.branch w es) = (var ≤ w) × (w < length sizes) × (count es ≡ slice_index sizes w) × (0 < count es) × AllSuit sizes P (suc w) es
 
-  AllSuit : List ℕ → (Leaf → Type 0) → ℕ → Subtrees Leaf → Type 0
+  pub AllSuit : List ℕ → (Leaf → Type 0) → ℕ → Subtrees Leaf → Type 0
   AllSuit sizes P var none = Unit {0}
   AllSuit sizes P var (also e es) = Suits sizes P var e × AllSuit sizes P var es
 
@@ -52,11 +52,11 @@ module _ (sizes : List ℕ) (P : Leaf → Type 0) where
     also = λ e es h. (h.0, h.1);
   }
 
-  AllSuit-from : (var : ℕ) (ds : List D) → All (Suits sizes P var) ds → AllSuit sizes P var (subtrees_of ds)
+  pub AllSuit-from : (var : ℕ) (ds : List D) → All (Suits sizes P var) ds → AllSuit sizes P var (subtrees_of ds)
   AllSuit-from var [] h = tt
   AllSuit-from var (d ∷ ds) h = (All-head (Suits sizes P var) d ds h, AllSuit-from var ds (All-tail (Suits sizes P var) d ds h))
 
-count-subtrees_of : (ds : List D) → count (subtrees_of ds) ≡ length ds
+pub count-subtrees_of : (ds : List D) → count (subtrees_of ds) ≡ length ds
 count-subtrees_of [] = refl
 count-subtrees_of (d ∷ ds) = omega (arith, count-subtrees_of ds)
 

@@ -12,6 +12,9 @@ pub mod KidLaws
 pub mod FreezeLaws
 pub mod BranchLaws
 pub mod MixedLaws
+pub mod ThawLaws
+pub mod PlainLaws
+pub mod MakeLaws
 pub mod FrozenLaws
 pub mod ToldLaws
 pub mod CallerLemmas

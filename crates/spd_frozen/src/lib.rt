@@ -11,6 +11,7 @@ mod iterate;
 mod mixed;
 mod node;
 mod table;
+mod thawing;
 #[cfg(test)]
 mod tests;
 mod unique;
@@ -22,6 +23,7 @@ pub use mixed::{Mixed, MixedNode};
 pub use node::Node;
 use std::alloc::AllocError;
 pub use table::of_table;
+pub use thawing::{thaw, thaw_mixed};
 
 /// Memory was wanted and not found.
 pub type Memory = AllocError;
