@@ -40,10 +40,13 @@ further ds end l (Tests k y n) e low (r, inr f) =
     record {
       yes_reduced = rw same p.yes_reduced;
       yes_from = rw same (subst (λ (x : ℕ). IsFrom ds 0 x y) stop p.yes_from);
-      no_fits = rw same (p.no_reduced, elim p.no_fits [
-        | inl h ↦ inl (subst (λ (x : ℕ). IsFrom ds 0 x n) stop h)
-        | inr h ↦ inr (subst (λ (x : ℕ). IsAt (x + 1) n) here h.0, omega (arith, h.1, stop))
-      ]);
+      no_fits = rw same (
+        p.no_reduced,
+        elim p.no_fits [
+          | inl h ↦ inl (subst (λ (x : ℕ). IsFrom ds 0 x n) stop h)
+          | inr h ↦ inr (subst (λ (x : ℕ). IsAt (x + 1) n) here h.0, omega (arith, h.1, stop))
+        ],
+      );
     }
 
 -- The root of a reduced whole tree tests a level of a variable's next or present value. The trees that follow the values are reduced and

@@ -55,11 +55,13 @@ module _ (ds : List ℕ) (slot first end : ℕ) (trees : List Tree) (is : IsSlot
       let f = fits j (omega arith) in
       let rest = chain-fits n (j + 1) (l + 1) (omega arith) (omega arith) in
       let can = can-test l (sub j) (chain n (j + 1) (l + 1) sub) low high f.1 rest.1 in
-      let joined = joins ds l (sub j) (chain n (j + 1) (l + 1) sub) (level-in l low high) f.0 rest.0 can in
-      (joined.reduced, elim joined.fits [
-        | inl a ↦ inl (subst (λ (x : ℕ). IsFrom ds 0 x (chain (suc n) j l sub)) (after-in ds slot first end l is low high) a)
-        | inr a ↦ inr (a, high)
-      ])
+      let joined = joins ds l (sub j) (chain n (j + 1) (l + 1) sub) (level-in l low high) f.0 rest.0 can in (
+        joined.reduced,
+        elim joined.fits [
+          | inl a ↦ inl (subst (λ (x : ℕ). IsFrom ds 0 x (chain (suc n) j l sub)) (after-in ds slot first end l is low high) a)
+          | inr a ↦ inr (a, high)
+        ],
+      )
 
   pub tests-fit : (value : ℕ) → value < length trees → IsReduced ds 0 (tests_from trees first value) × (IsFrom ds 0 end (tests_from trees first value) ⊎ (IsAt (first + value) (tests_from trees first value) × (first + value < end)))
   tests-fit value h = chain-fits (length trees - 1 - value) value (first + value) (omega arith) refl
@@ -67,11 +69,13 @@ module _ (ds : List ℕ) (slot first end : ℕ) (trees : List Tree) (is : IsSlot
   pub tests-whole : IsReduced ds 0 (tests_from trees first 0) × IsFrom ds 0 first (tests_from trees first 0)
   tests-whole =
       let f = tests-fit 0 some in
-      let z : first + 0 ≡ first = omega arith in
-      (f.0, elim f.1 [
-        | inl a ↦ IsFrom-lower ds first end (tests_from trees first 0) (omega arith) a
-        | inr a ↦ IsFrom-at ds first first (tests_from trees first 0) (omega arith) (first-is ds slot first end is (omega (arith, a.1))) (subst (λ (x : ℕ). IsAt x (tests_from trees first 0)) z a.0)
-      ])
+      let z : first + 0 ≡ first = omega arith in (
+        f.0,
+        elim f.1 [
+          | inl a ↦ IsFrom-lower ds first end (tests_from trees first 0) (omega arith) a
+          | inr a ↦ IsFrom-at ds first first (tests_from trees first 0) (omega arith) (first-is ds slot first end is (omega (arith, a.1))) (subst (λ (x : ℕ). IsAt x (tests_from trees first 0)) z a.0)
+        ],
+      )
 
   -- the tests from a value on are a test of it and of the others
   pub tests-next : (value : ℕ) → value + 1 < length trees → tests_from trees first value ≡ join (first + value) (sub value) (tests_from trees first (value + 1))
@@ -200,13 +204,13 @@ module _ (ds : List ℕ) (nodes : List (Node Leaf)) (frozen : IsFrozen nodes) (f
       let at = kid_at (diagrams nodes) in
       let kid : (j d : ℕ) → j < length kids → Suits ds AnyLeaf (suc v) (at (get_or kids j d)) =
       λ j d q. (let both = a.1 j d q in
-          let k = get_or kids j d in
-          let low : k < length nodes = omega (arith, both.0) in
-          let m = get_or nodes k (Node.leaf (Num (pos 0))) in
-          let here : get_or nodes k m ≡ m = get_or_default nodes k m (Node.leaf (Num (pos 0))) low in
-          let is = node-diagram k m low here in
-          let later : IsAfter v (Some m) = subst (IsAfter v) (stands k (Node.leaf (Num (pos 0))) low) both.1 in
-          subst (Suits ds AnyLeaf (suc v)) (sym is) (suits-raise ds (diagrams nodes) v m later (subst (Suits ds AnyLeaf 0) is (ih k both.0)))) in
+      let k = get_or kids j d in
+      let low : k < length nodes = omega (arith, both.0) in
+      let m = get_or nodes k (Node.leaf (Num (pos 0))) in
+      let here : get_or nodes k m ≡ m = get_or_default nodes k m (Node.leaf (Num (pos 0))) low in
+      let is = node-diagram k m low here in
+      let later : IsAfter v (Some m) = subst (IsAfter v) (stands k (Node.leaf (Num (pos 0))) low) both.1 in
+      subst (Suits ds AnyLeaf (suc v)) (sym is) (suits-raise ds (diagrams nodes) v m later (subst (Suits ds AnyLeaf 0) is (ih k both.0)))) in
       let all : All (λ k. Suits ds AnyLeaf (suc v) (at k)) kids = kid in
       let n : count (subtrees_of (map at kids)) ≡ length kids = count-subtrees_of (map at kids) ∙ length-map kids at in
       (omega arith, f.0, n ∙ f.1, omega (arith, n, a.0), AllSuit-from ds AnyLeaf (suc v) (map at kids) (All-map (Suits ds AnyLeaf (suc v)) at kids all))

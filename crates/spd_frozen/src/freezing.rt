@@ -65,11 +65,7 @@ pub fn freeze_mixed<F: Forest>(alloc: Global, forest: &mut F, r: Ref) -> Result<
 }
 
 /// The nodes of a Ref's diagram in order of first completion.
-fn complete_all<F: Forest>(
-    alloc: Global,
-    forest: &mut F,
-    r: Ref,
-) -> Result<Vec<MixedNode>, Memory>
+fn complete_all<F: Forest>(alloc: Global, forest: &mut F, r: Ref) -> Result<Vec<MixedNode>, Memory>
     requires known { (F.shows forest.old).knows r ≡ true }
     requires whole { IsWhole (F.shows forest.old) r }
     ensures same { F.shows forest.new ≡ F.shows forest.old }
@@ -200,5 +196,8 @@ fn plain_node(node: MixedNode) -> Node
 fn plain_nodes(alloc: Global, nodes: Vec<MixedNode>) -> Result<Vec<Node>, Memory>
     ensures { IfOk result (λ plain. plain.items ≡ map plain_of nodes.items) }
 {
-    nodes.into_iter().map(|node| plain_node(node)).collect(alloc)
+    nodes
+        .into_iter()
+        .map(|node| plain_node(node))
+        .collect(alloc)
 }

@@ -11,9 +11,9 @@ mod iterate;
 mod mixed;
 mod node;
 mod table;
-mod thawing;
 #[cfg(test)]
 mod tests;
+mod thawing;
 mod unique;
 
 pub use freezing::{freeze, freeze_mixed};
