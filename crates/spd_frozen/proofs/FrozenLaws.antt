@@ -22,18 +22,18 @@ use Rattle.spd_frozen.proofs.FollowLaws.{reached_among-at}
 use Rattle.spd_model.proofs.CallerLemmas.Lists.{length-numbers_below, get_or-numbers_below, All-numbers_below}
 
 -- how many subtrees there are
-abbrev count : Subtrees Leaf → ℕ
+abbrev pub count : Subtrees Leaf → ℕ
 count none = 0
 count (also e es) = suc (count es)
 
 -- A diagram over variables of these sizes from `var` on, with such leaves: variables rise, and a branch has one subtree for each
 -- value of its variable.
 abbrev mutual
-  Suits : List ℕ → (Leaf → Type 0) → ℕ → D → Type 0
+  pub Suits : List ℕ → (Leaf → Type 0) → ℕ → D → Type 0
   Suits sizes P var (Diagram.leaf x) = P x
   Suits sizes P var (Diagram.branch w es) = (var ≤ w) × (w < length sizes) × (count es ≡ slice_index sizes w) × (0 < count es) × AllSuit sizes P (suc w) es
 
-  AllSuit : List ℕ → (Leaf → Type 0) → ℕ → Subtrees Leaf → Type 0
+  pub AllSuit : List ℕ → (Leaf → Type 0) → ℕ → Subtrees Leaf → Type 0
   AllSuit sizes P var none = Unit {0}
   AllSuit sizes P var (also e es) = Suits sizes P var e × AllSuit sizes P var es
 
@@ -52,11 +52,11 @@ module _ (sizes : List ℕ) (P : Leaf → Type 0) where
     also = λ e es h. (h.0, h.1);
   }
 
-  AllSuit-from : (var : ℕ) (ds : List D) → All (Suits sizes P var) ds → AllSuit sizes P var (subtrees_of ds)
+  pub AllSuit-from : (var : ℕ) (ds : List D) → All (Suits sizes P var) ds → AllSuit sizes P var (subtrees_of ds)
   AllSuit-from var [] h = tt
   AllSuit-from var (d ∷ ds) h = (All-head (Suits sizes P var) d ds h, AllSuit-from var ds (All-tail (Suits sizes P var) d ds h))
 
-count-subtrees_of : (ds : List D) → count (subtrees_of ds) ≡ length ds
+pub count-subtrees_of : (ds : List D) → count (subtrees_of ds) ≡ length ds
 count-subtrees_of [] = refl
 count-subtrees_of (d ∷ ds) = omega (arith, count-subtrees_of ds)
 
@@ -183,7 +183,7 @@ all-equal-at d [] v h q = absurd (omega arith)
 all-equal-at d (e ∷ ds) zero h q = sym (is_equal-true d e (and_parts (is_equal leaf_eq d e) (list_all (is_equal leaf_eq d) ds) h).0)
 all-equal-at d (e ∷ ds) (suc v) h q = all-equal-at d ds v (and_parts (is_equal leaf_eq d e) (list_all (is_equal leaf_eq d) ds) h).1 (omega arith)
 
-equal-at : (d : D) (ds : List D) (v : ℕ) → list_all (is_equal leaf_eq d) ds ≡ true → v < length (d ∷ ds) → get_or (d ∷ ds) v nothing ≡ d
+pub equal-at : (d : D) (ds : List D) (v : ℕ) → list_all (is_equal leaf_eq d) ds ≡ true → v < length (d ∷ ds) → get_or (d ∷ ds) v nothing ≡ d
 equal-at d ds zero h q = refl
 equal-at d ds (suc v) h q = all-equal-at d ds v h (omega arith)
 
@@ -208,6 +208,13 @@ reached-reduced s front (size ∷ rest) (v ∷ t) var f e n h =
     let kid : get_or (map F (numbers_below size)) v nothing ≡ F v = get_or-map F (numbers_below size) v 0 nothing (omega (arith, length-numbers_below size, h.0)) ∙ ap F (get_or-numbers_below size v h.0) in
     reached-choice s var v (map F (numbers_below size)) at-var within ∙ ap (reached s) kid
     ∙ reached-reduced s (front ++ v ∷ []) rest t (suc var) (λ u. f (v ∷ u)) (e ∙ sym (append_assoc front (v ∷ []) t)) (omega (arith, n, length-append front (v ∷ []))) h.1
+
+-- functions with one reduced diagram agree at all states
+pub reduced-same : (var : ℕ) (sizes : List ℕ) (f g : List ℕ → Leaf) → reduced_from leaf_eq var sizes f ≡ reduced_from leaf_eq var sizes g → (s : List ℕ) → IsState sizes s → f s ≡ g s
+reduced-same var sizes f g e s h =
+    let front = numbers_below var in
+    let long : var ≡ length front = sym (length-numbers_below var) in
+    sym (reached-reduced (front ++ s) front sizes s var f refl long h) ∙ ap (reached (front ++ s)) e ∙ reached-reduced (front ++ s) front sizes s var g refl long h
 
 -- what the list of a function is
 module _ (sizes : List ℕ) (P : Leaf → Type 0) (f : List ℕ → Leaf) (some : ArePositive sizes) (leaves : (s : List ℕ) → IsState sizes s → P (f s)) where

@@ -5,6 +5,16 @@ pub mod Reading
 pub mod UniqueLaws
 pub mod FollowLaws
 pub mod TableLaws
+pub mod SlotTrees
+pub mod TreeDiagrams
+pub mod MovedLaws
+pub mod KidLaws
+pub mod FreezeLaws
+pub mod BranchLaws
+pub mod MixedLaws
+pub mod ThawLaws
+pub mod PlainLaws
+pub mod MakeLaws
 pub mod FrozenLaws
 pub mod ToldLaws
 pub mod CallerLemmas

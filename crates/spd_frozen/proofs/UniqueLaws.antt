@@ -78,7 +78,7 @@ diagrams-alike ds a b apart h k = (
 )
 
 -- kids of the nodes of a list
-HasKidsBelow-more : (m n : ℕ) (node : Node Leaf) → m ≤ n → HasKidsBelow m node → HasKidsBelow n node
+pub HasKidsBelow-more : (m n : ℕ) (node : Node Leaf) → m ≤ n → HasKidsBelow m node → HasKidsBelow n node
 HasKidsBelow-more m n (Node.leaf x) le h = tt
 HasKidsBelow-more m n (Node.branch v kids) le h = All-weaker (λ k. k < m) (λ k. k < n) (λ k p. omega arith) kids h
 
@@ -93,7 +93,7 @@ KidsFirst-below m (n ∷ nodes) h =
 pub KidsFirst-all : (nodes : List (Node Leaf)) → KidsFirst 0 nodes → All (HasKidsBelow (length nodes)) nodes
 KidsFirst-all nodes h = subst (λ (k : ℕ). All (HasKidsBelow k) nodes) (omega arith) (KidsFirst-below 0 nodes h)
 
-KidsFirst-push : (m : ℕ) (nodes : List (Node Leaf)) (n : Node Leaf) → KidsFirst m nodes → HasKidsBelow (m + length nodes) n → KidsFirst m (nodes ++ n ∷ [])
+pub KidsFirst-push : (m : ℕ) (nodes : List (Node Leaf)) (n : Node Leaf) → KidsFirst m nodes → HasKidsBelow (m + length nodes) n → KidsFirst m (nodes ++ n ∷ [])
 KidsFirst-push m [] n h k = (HasKidsBelow-more (m + 0) m n (omega arith) k, tt)
 KidsFirst-push m (x ∷ nodes) n h k =
     (h.0, KidsFirst-push (suc m) nodes n h.1 (HasKidsBelow-more (m + length (x ∷ nodes)) (suc m + length nodes) n (omega arith) k))

@@ -1,1 +1,4 @@
 pub mod Unique
+pub mod Kids
+pub mod Completed
+pub mod Thawed

@@ -5,19 +5,25 @@
 //! model is one definition.
 #![tactic(auto)]
 
+mod freezing;
 mod frozen;
 mod iterate;
+mod mixed;
 mod node;
 mod table;
 #[cfg(test)]
 mod tests;
+mod thawing;
 mod unique;
 
+pub use freezing::{freeze, freeze_mixed};
 pub use frozen::Frozen;
 pub use iterate::{Iterate, Residual};
+pub use mixed::{Mixed, MixedNode};
 pub use node::Node;
 use std::alloc::AllocError;
 pub use table::of_table;
+pub use thawing::{thaw, thaw_mixed};
 
 /// Memory was wanted and not found.
 pub type Memory = AllocError;
