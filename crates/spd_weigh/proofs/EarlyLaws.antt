@@ -1,5 +1,5 @@
 -- Where a sum ends early: zero weights fall out, and one value that is left is the sum.
-use Rattle.std.proofs.Common.{◌≡◌, ℕ, zero, suc, ◌+◌, ◌-◌, ◌*◌, ◌/◌, ◌<◌, ◌≤◌, ◌⊎◌, inl, inr, Bool, true, false, cond, List, [], ◌∷◌, map, length, set, get_or, drop, refl, sym, ◌∙◌, ap, subst, arith, ℤ, pos, ◌+ℤ◌, ◌*ℤ◌, ◌<ℤ◌}
+use Rattle.std.proofs.Common.{◌≡◌, ℕ, zero, suc, ◌+◌, ◌-◌, ◌*◌, ◌/◌, ◌<◌, ◌≤◌, ◌⊎◌, inl, inr, Bool, true, false, cond, List, [], ◌∷◌, map, length, set, get_or, drop, take, refl, sym, ◌∙◌, ap, subst, arith, ℤ, pos, ◌+ℤ◌, ◌*ℤ◌, ◌<ℤ◌}
 use Rattle.std.proofs.lemmas.Bool.{and_parts, or_cases}
 use Rattle.std.proofs.lemmas.Bool.Decides.{Decides-int_eq}
 use Rattle.std.proofs.lemmas.Int.{ints}
@@ -23,7 +23,7 @@ use Rattle.spd_gather.proofs.CallerLemmas.{down-is, down-same, half-none}
 use Rattle.spd_weigh.specs.declared.way.Way.{Way}
 use Rattle.spd_weigh.specs.declared.way.Way.TheVariants as W
 use Rattle.spd_weigh.specs.Leaves.{rounding_of, number_of}
-use Rattle.spd_weigh.specs.Summed.{taken, at_slot, summed, products, weights, weighed, is_weight, is_value, each_fits, fit, fit_mark, zero_tree, IsAlone, IsLike}
+use Rattle.spd_weigh.specs.Summed.{taken, at_slot, summed, products, weights, weighed, is_weight, is_value, each_fits, fit, fit_mark, zero_tree, IsAlone, IsLike, AreCleared}
 use Rattle.spd_weigh.proofs.RuleLaws.{cofactored-past}
 
 -- each weight is 0 or stands before this leaf
@@ -323,3 +323,37 @@ alone-end s u (x ∷ []) zero b = tt
 alone-end s u (x ∷ []) (suc v) b = let f : 2 * suc v ≡ suc (suc (2 * v)) = omega arith in rw f tt
 alone-end s u (x ∷ g ∷ ks) zero b = absurd (omega arith)
 alone-end s u (x ∷ g ∷ ks) (suc v) b = let f : 2 * suc v ≡ suc (suc (2 * v)) = omega arith in rw f (alone-end s u ks v (omega arith))
+
+-- The pairs before a place are cleared, and so are those up to it once a value of weight 0 is one too.
+pub cleared-zero : (s : Shown) (ks : List Entry) (v : ℕ) (k : Entry) → 2 * v + 1 < length ks → s.tree k ≡ zero_tree → AreCleared (trees_of s (take (2 * v) ks))
+    → AreCleared (trees_of s (take (2 * v + 2) (set ks (2 * v + 1) k)))
+cleared-zero s [] v k b z h = absurd (omega arith)
+cleared-zero s (x ∷ []) v k b z h = absurd (omega arith)
+cleared-zero s (x ∷ g ∷ ks) zero k b z h = (λ w. z, tt)
+cleared-zero s (x ∷ g ∷ ks) (suc v) k b z h =
+    let f : 2 * suc v ≡ suc (suc (2 * v)) = omega arith in
+    let m : suc (suc (2 * v)) + 1 ≡ suc (suc (2 * v + 1)) = omega arith in
+    let n : suc (suc (2 * v)) + 2 ≡ suc (suc (2 * v + 2)) = omega arith in
+    let q = rw f at h in
+    rw (f, m, n) (q.0, cleared-zero s ks v k (omega arith) z q.1)
+
+pub cleared-other : (s : Shown) (ks : List Entry) (v : ℕ) (d : Entry) → 2 * v + 1 < length ks → (s.tree (get_or ks (2 * v) d) ≡ zero_tree → ⊥) → AreCleared (trees_of s (take (2 * v) ks))
+    → AreCleared (trees_of s (take (2 * v + 2) ks))
+cleared-other s [] v d b z h = absurd (omega arith)
+cleared-other s (x ∷ []) v d b z h = absurd (omega arith)
+cleared-other s (x ∷ g ∷ ks) zero d b z h = (λ w. absurd (z w), tt)
+cleared-other s (x ∷ g ∷ ks) (suc v) d b z h =
+    let f : 2 * suc v ≡ suc (suc (2 * v)) = omega arith in
+    let n : suc (suc (2 * v)) + 2 ≡ suc (suc (2 * v + 2)) = omega arith in
+    let q = rw f at h in
+    rw (f, n) (q.0, cleared-other s ks v d (omega arith) (rw f at z) q.1)
+
+-- where at most one tree is left all are
+pub cleared-end : (s : Shown) (ks : List Entry) (v : ℕ) → length ks < 2 * v + 2 → AreCleared (trees_of s (take (2 * v) ks)) → AreCleared (trees_of s ks)
+cleared-end s [] v b h = tt
+cleared-end s (x ∷ []) v b h = tt
+cleared-end s (x ∷ g ∷ ks) zero b h = absurd (omega arith)
+cleared-end s (x ∷ g ∷ ks) (suc v) b h =
+    let f : 2 * suc v ≡ suc (suc (2 * v)) = omega arith in
+    let q = rw f at h in
+    (q.0, cleared-end s ks v (omega arith) q.1)

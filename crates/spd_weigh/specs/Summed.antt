@@ -79,6 +79,12 @@ IsAlone u [] = Unit {0}
 IsAlone u (w ∷ []) = Unit {0}
 IsAlone u (w ∷ f ∷ ts) = ((w ≡ zero_tree) ⊎ (f ≡ u)) × IsAlone u ts
 
+-- each value whose weight is 0 is 0 too
+abbrev pub AreCleared : List Tree → Type 0
+AreCleared [] = Unit {0}
+AreCleared (w ∷ []) = Unit {0}
+AreCleared (w ∷ f ∷ ts) = (w ≡ zero_tree → f ≡ zero_tree) × AreCleared ts
+
 -- the same list, but that the weight may stand in the place of its value where it is 0
 abbrev pub IsLike : List Tree → List Tree → Type 0
 IsLike [] us = us ≡ []

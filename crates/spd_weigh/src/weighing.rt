@@ -1,6 +1,6 @@
 //! How summing out goes down from a list of weights and values.
 
-ghost use Rattle.std.specs.Prelude.{◌≡◌, ◌⊎◌, ℕ, ◌<◌, ◌≤◌, ◌+◌, ◌*◌, ◌/◌, ◌^◌, List, map, drop, length, IfOk, IfSome, All, Contains, None, true, IsTrue, pos, ◌≤ℤ◌, ◌*ℤ◌};
+ghost use Rattle.std.specs.Prelude.{◌≡◌, ◌⊎◌, ℕ, ◌<◌, ◌≤◌, ◌+◌, ◌*◌, ◌/◌, ◌^◌, List, map, drop, take, length, IfOk, IfSome, All, Contains, None, true, IsTrue, pos, ◌≤ℤ◌, ◌*ℤ◌};
 ghost use Rattle.spd_model.specs.Chances.{one};
 ghost use Rattle.spd_nodes.specs.Levels.{levels_of, slots};
 ghost use Rattle.spd_nodes.specs.Shown.{Shown, IsSound, MakesTree};
@@ -10,7 +10,7 @@ ghost use Rattle.spd_restrict.specs.Restricted.{cofactored};
 ghost use Rattle.spd_gather.specs.Down.{Each, last_leaf};
 ghost use Rattle.spd_gather.specs.Lists.{trees_of, AreKnown, AreMet, IsListPlan};
 ghost use Rattle.spd_weigh.specs.Leaves.{number_of as number_at};
-ghost use Rattle.spd_weigh.specs.Summed.{summed, taken, weighed, MaySum, IsAlone, IsLike, zero_tree, each_fits, fit, weights, products};
+ghost use Rattle.spd_weigh.specs.Summed.{summed, taken, weighed, MaySum, IsAlone, IsLike, AreCleared, zero_tree, each_fits, fit, weights, products};
 
 use crate::way::Way;
 use spd_apply::OpFault;
@@ -36,6 +36,7 @@ fn is_zero<F: Forest>(forest: &mut F, r: Ref) -> bool
     ensures same { F.shows forest.new ≡ F.shows forest.old }
     ensures keeps { F.kept forest.new ≡ F.kept forest.old }
     ensures zero { IsTrue result → (F.shows forest.old).tree r ≡ zero_tree }
+    ensures other { (F.shows forest.old).tree r ≡ zero_tree → IsTrue result }
 {
     match forest.view(r) {
         View::Leaf(Leaf::Num(x)) => x == 0,
@@ -65,6 +66,7 @@ fn clear_value<F: Forest>(forest: &mut F, list: &mut Vec<Ref>, v: usize)
     ensures length { length list.new.items ≡ length list.old.items }
     ensures known { AreKnown (F.shows forest.old) list.new.items }
     ensures like { (ts : List Tree) → IsLike ts (trees_of (F.shows forest.old) list.old.items) → IsLike ts (trees_of (F.shows forest.old) list.new.items) }
+    ensures cleared { AreCleared (trees_of (F.shows forest.old) (take (2 * v) list.old.items)) → AreCleared (trees_of (F.shows forest.old) (take (2 * v + 2) list.new.items)) }
 {
     let weight = list[2 * v];
     if is_zero(forest, weight) {
@@ -79,6 +81,7 @@ pub fn clear<F: Forest>(forest: &mut F, list: &mut Vec<Ref>)
     ensures keeps { F.kept forest.new ≡ F.kept forest.old }
     ensures known { AreKnown (F.shows forest.old) list.new.items }
     ensures like { IsLike (trees_of (F.shows forest.old) list.old.items) (trees_of (F.shows forest.old) list.new.items) }
+    ensures cleared { AreCleared (trees_of (F.shows forest.old) list.new.items) }
 {
     for v in 0..list.len() / 2 {
         clear_value(forest, list, v);

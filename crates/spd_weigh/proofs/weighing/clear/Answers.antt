@@ -1,6 +1,7 @@
-use Rattle.std.proofs.Common.{rules, refl}
+use Rattle.std.proofs.Common.{rules, refl, arith, ap, ◌≡◌, ◌<◌, ◌+◌, ◌*◌, length, take}
 use Rattle.spd_gather.specs.Lists.{trees_of}
-use Rattle.spd_weigh.proofs.EarlyLaws.{like-same}
+use Rattle.spd_weigh.specs.Summed.{AreCleared}
+use Rattle.spd_weigh.proofs.EarlyLaws.{cleared-end, like-same}
 use Rattle.spd_weigh.proofs.weighing.clear.Goals as goal
 
 pub loop-v-init : goal.loop-v-init
@@ -11,16 +12,25 @@ loop-v-init g c =
       length_is = refl;
       known = search rules;
       like = like-same (trees_of (g.F.Forest.shows c.args.forest.now) c.args.list.now.items);
+      cleared = tt;
     }
 
 pub loop-v-preserved : goal.loop-v-preserved
 loop-v-preserved g c =
     let like = rw c.loop-v.invariant.same at c.clear_value.ensures.like in
     let known = rw c.loop-v.invariant.same at c.clear_value.ensures.known in
+    let cleared = rw c.loop-v.invariant.same at c.clear_value.ensures.cleared in
+    let next : 2 * (c.loop-v.v + 1) ≡ 2 * c.loop-v.v + 2 = omega arith in
     record {
       same = search rules;
       keeps = search rules;
       length_is = search rules;
       known = known;
       like = like _ c.loop-v.invariant.like;
+      cleared = rw next (cleared c.loop-v.invariant.cleared);
     }
+
+pub returns-clause-cleared : goal.returns-clause-cleared
+returns-clause-cleared g c =
+    let end : length c.loop-v.list.items < 2 * c.loop-v.v + 2 = search (rules, arith) in
+    cleared-end (g.F.Forest.shows c.args.forest.now) c.loop-v.list.items c.loop-v.v end c.loop-v.invariant.cleared

@@ -1,6 +1,6 @@
-use Rattle.std.proofs.Common.{◌≡◌, length}
+use Rattle.std.proofs.Common.{◌≡◌, ◌*◌, length, take}
 use Rattle.spd_gather.specs.Lists.{trees_of, AreKnown}
-use Rattle.spd_weigh.specs.Summed.{IsLike}
+use Rattle.spd_weigh.specs.Summed.{IsLike, AreCleared}
 use Rattle.spd_weigh.proofs.weighing.clear.Given as goal
 
 abbrev pub invariant-loop-v : goal.invariant-loop-v
@@ -10,4 +10,5 @@ invariant-loop-v g l = record {
   length_is : length l.list.items ≡ length l.fn.list.items;
   known : AreKnown (g.F.Forest.shows l.fn.forest) l.list.items;
   like : IsLike (trees_of (g.F.Forest.shows l.fn.forest) l.fn.list.items) (trees_of (g.F.Forest.shows l.fn.forest) l.list.items);
+  cleared : AreCleared (trees_of (g.F.Forest.shows l.fn.forest) (take (2 * l.v) l.list.items));
 }
