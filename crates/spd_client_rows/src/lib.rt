@@ -1,4 +1,4 @@
-//! Tests of what clients are told that cross crates: the board under threads, and the answers to lines.
+//! Tests of what clients are told: frozen diagrams, the board under threads, and the answers to lines.
 #![tactic(auto)]
 
 #[cfg(test)]
@@ -7,3 +7,5 @@ mod board;
 mod lines;
 #[cfg(test)]
 mod models;
+#[cfg(test)]
+mod tables;

@@ -11,8 +11,6 @@ mod iterate;
 mod mixed;
 mod node;
 mod table;
-#[cfg(test)]
-mod tests;
 mod thawing;
 mod unique;
 

@@ -1,7 +1,7 @@
 use Rattle.std.proofs.Common.{ℕ, List, [], ◌∷◌, sym, subst, lit<}
 use Rattle.spd_model.specs.States.{sizes, IsState}
-use Rattle.spd_frozen.proofs.FrozenLaws.{fits-kids}
-use Rattle.spd_frozen.proofs.tests.a_table_gives_its_reduced_diagram.Goals as goal
+use Rattle.spd_frozen.proofs.CallerLemmas.{fits-kids}
+use Rattle.spd_client_rows.proofs.tables.a_table_gives_its_reduced_diagram.Goals as goal
 
 pub at-requires : goal.at-requires
 at-requires g c =

@@ -3,7 +3,7 @@
 ghost use Rattle.std.specs.Prelude.{◌≡◌, [], ◌∷◌, IfOk};
 ghost use Rattle.spd_model.specs.States.{sizes};
 
-use super::*;
+use spd_frozen::{Memory, Node, of_table};
 use spd_model::{Action, Model, State, Tree, Var};
 use spd_nodes::Leaf;
 use sqlite_items::Items;
