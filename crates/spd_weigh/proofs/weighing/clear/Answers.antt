@@ -1,6 +1,5 @@
-use Rattle.std.proofs.Common.{rules, refl, arith, ap, ◌≡◌, ◌<◌, ◌+◌, ◌*◌, length, take}
+use Rattle.std.proofs.Common.{rules, refl, arith, ◌≡◌, ◌<◌, ◌+◌, ◌*◌, length}
 use Rattle.spd_gather.specs.Lists.{trees_of}
-use Rattle.spd_weigh.specs.Summed.{AreCleared}
 use Rattle.spd_weigh.proofs.EarlyLaws.{cleared-end, like-same}
 use Rattle.spd_weigh.proofs.weighing.clear.Goals as goal
 
