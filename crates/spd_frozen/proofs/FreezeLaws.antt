@@ -47,9 +47,6 @@ module _ (s : Shown) (o : IsSound s) where
     long : length (diagrams nodes) ≡ length refs
     long = ap length holds.read ∙ length-map refs (slot_diagram s)
 
-    long-nodes : length (diagrams nodes) ≡ length nodes
-    long-nodes = length-diagrams_after [] nodes ∙ omega arith
-
     -- the diagram of an entry that is there
     diagram-there : (i : ℕ) (r : Entry) → i < length refs → get_or refs i r ≡ r → (Contains (diagrams nodes) (slot_diagram s r)) × (i ≡ node_number leaf_eq (diagrams nodes) (slot_diagram s r))
     diagram-there i r low at =

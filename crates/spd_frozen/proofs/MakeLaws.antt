@@ -39,9 +39,6 @@ small-slots (d ∷ ds) (suc (suc k)) h = small-slots ds k (λ i e q. h (suc i) e
 
 -- a node of a list that fits the slots
 module _ (ds : List ℕ) (nodes : List (Node Leaf)) (frozen : IsFrozen nodes) (fits : FitsSizes ds nodes) (number : ℕ) (low : number < length nodes) where
-  zero-node : Node Leaf
-  zero-node = Node.leaf (Num (pos 0))
-
   here : get_or nodes number (node_at nodes number) ≡ node_at nodes number
   here = get_or_default nodes number (node_at nodes number) (Node.leaf (Num (pos 0))) low
 
@@ -213,9 +210,6 @@ has-set s nodes made number r low h k = record {
         let within : i < length made = omega (arith, slice_get_within (set made number (Some r)) i (Some q) e, length-set made number (Some r)) in
         let old : slice_get made i ≡ Some (Some q) = slice_get-get_or made i (Some q) within ∙ ap Some (sym (get_or-set_other made number i (Some r) (Some q) other) ∙ get_or_from_slice_get (set made number (Some r)) i (Some q) (Some q) e) in
         h.known i q old
-
-pub has-none : (s : Shown) (nodes : List (Node Leaf)) (made : List (Option Entry)) → length made ≡ length nodes → ((i : ℕ) (r : Entry) → slice_get made i ≢ Some (Some r)) → HasMade s nodes made
-has-none s nodes made e h = record { long = e; known = λ i r q. absurd (h i r q) }
 
 -- the diagram of the last node
 pub root-made : (s t : Shown) (o : IsSound s) (nodes : List (Node Leaf)) → IsFrozen nodes → FitsSizes (slots s.sizes) nodes → (result : Result Entry StoreFault)
