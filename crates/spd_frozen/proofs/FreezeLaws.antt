@@ -23,7 +23,7 @@ use Rattle.spd_frozen.specs.inner.Unique.{AreApart, HasKidsBelow, HasSubtreesAmo
 use Rattle.spd_frozen.specs.inner.Completed.{slot_diagram, IsRoot, HoldsNodes, kids_of, IsCompleted, IsNext, AddsNode}
 use Rattle.spd_frozen.proofs.Places.{D, IsNew, there-or-new, with_node-there, with_node-new, number-push}
 use Rattle.spd_frozen.proofs.Completion.{with_node-is, nodes_after-there}
-use Rattle.spd_frozen.proofs.Reading.{nothing, kid_at, diagrams_after-push, length-diagrams_after}
+use Rattle.spd_frozen.proofs.Reading.{nothing, kid_at, diagrams_after-push}
 use Rattle.spd_frozen.proofs.UniqueLaws.{KidsFirst-push, HasKidsBelow-more, AreApart-push}
 use Rattle.spd_frozen.proofs.TreeDiagrams.{tree_diagram, diagram-tree_of, diagram-leaf, diagrams-apart}
 
