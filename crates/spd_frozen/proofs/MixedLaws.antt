@@ -14,8 +14,8 @@ use Rattle.spd_model.specs.Reduced.{Node, node_of, choice_of, reduced, reduced_f
 use Rattle.spd_model.specs.States.{IsState}
 use Rattle.spd_nodes.specs.declared.leaf.Leaf.{Leaf}
 use Rattle.spd_nodes.specs.Levels.{AllPositive, slots, slot_of}
-use Rattle.spd_nodes.specs.Shown.{Shown, IsSound, meaning}
-use Rattle.spd_nodes.specs.States.{point, plain_part, primed_part, function_of}
+use Rattle.spd_nodes.specs.Shown.{Shown, IsSound, StandsFor, meaning}
+use Rattle.spd_nodes.specs.States.{Agree, Function, point, plain_part, primed_part}
 use Rattle.spd_nodes.specs.Trees.{leaf_eq, value_at}
 use Rattle.spd_nodes.proofs.CallerLemmas.{IsPointOf, IsState-point, point-parts, positive-slots}
 use Rattle.spd_frozen.specs.declared.mixed.MixedNode.{MixedNode as StoredNode}
@@ -29,6 +29,7 @@ use Rattle.spd_frozen.specs.inner.Completed.{slot_diagram, IsCompleted}
 use Rattle.spd_frozen.proofs.FrozenLaws.{ArePositive, frozen-is, frozen-fits, frozen-leaf_at}
 use Rattle.spd_frozen.proofs.MovedLaws.{changed, moved, choice-changed, listed-changed}
 use Rattle.spd_frozen.proofs.Places.{D}
+use Rattle.spd_frozen.proofs.ToldLaws.{frozen_of-agree}
 use Rattle.spd_frozen.proofs.TreeDiagrams.{choice-same, at-value}
 use Rattle.spd_frozen.proofs.UniqueLaws.{nodes-back}
 
@@ -138,3 +139,17 @@ plain-back (m ∷ stored) (n ∷ nodes) e =
     let first = plain-node m n a in
     let others = plain-back stored nodes b in
     λ i. first i ∷ others i
+
+-- an entry that stands for a function of the present state
+pub present-from : (s : Shown) (r : Entry) (g : List ℕ → Leaf) → StandsFor s r (λ x t. g x) → IsOfPresent s r
+present-from s r g h = record { at = λ x t i j. h.value.at x t i j ∙ sym (h.value.at x x i i) }
+
+-- its list is the function's
+pub present-list : (s : Shown) (r : Entry) (g : List ℕ → Leaf) → StandsFor s r (λ x t. g x) → frozen_of s.sizes (λ x. meaning s r x x) ≡ frozen_of s.sizes g
+present-list s r g h = frozen_of-agree s.sizes (λ x. meaning s r x x) g (λ x i. h.value.at x x i i)
+
+-- functions that agree at all states have one list over the slots
+pub mixed_of-agree : (sizes : List ℕ) (f g : Function) → Agree sizes f g → mixed_of sizes f ≡ mixed_of sizes g
+mixed_of-agree sizes f g h =
+    frozen_of-agree (slots sizes) (λ p. f (plain_part p) (primed_part p)) (λ p. g (plain_part p) (primed_part p))
+    (λ p i. let q : IsPointOf sizes p = point-parts sizes p i in h.at (plain_part p) (primed_part p) q.plain q.primed)
