@@ -1,9 +1,8 @@
 //! Reduced decision diagrams as plain lists of nodes, and what a turn of value iteration found.
 //!
-//! `spd_frozen` has diagrams as lists of nodes (`Frozen`, and `Mixed` where next values are tested too), each node once and
-//! behind its children, and what is told of a turn (`Iterate`). `of_table` makes the reduced diagram of a table, `Frozen::at`
-//! follows a state to its leaf. `freeze` and `freeze_mixed` list a diagram of a forest, and `thaw` and `thaw_mixed` give a list
-//! back to one. That an iterate fits a model is one definition.
+//! `spd_frozen` has diagrams as lists of nodes (`Frozen`), each node once and behind its children, and what is told of a turn
+//! (`Iterate`). `of_table` makes the reduced diagram of a table, `Frozen::at` follows a state to its leaf. That an iterate fits a
+//! model is one definition.
 #![tactic(auto)]
 
 mod freezing;

@@ -150,7 +150,7 @@ fn thaw_nodes<F: Forest, M: Listed, L: Ledger>(
 }
 
 /// Makes the diagram of a node, unless it was made. Calls nest at most two deep a variable's present or next value, and one
-/// deep a level besides.
+/// deep a level besides: 912.
 #[cycle(make)]
 fn make<F: Forest, M: Listed, L: Ledger>(
     forest: &mut F,
