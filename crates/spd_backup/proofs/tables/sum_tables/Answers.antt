@@ -1,0 +1,8 @@
+use Rattle.std.proofs.Common.{◌≡◌, ◌+◌, ◌∷◌, [], ◌++◌, length, length-append, arith, List, ap, ◌∙◌}
+use Rattle.std.proofs.lemmas.List.Elements.{All-nil, All-push}
+use Rattle.spd_gather.specs.Rows.{Row}
+use Rattle.spd_backup.proofs.KeepingLaws.{each-none}
+use Rattle.spd_backup.proofs.tables.sum_tables.Goals as goal
+
+pub returns : goal.returns
+returns c = λ way s. each-none way _ s c.loop-size.sums.items (omega arith) c.loop-size.invariant.empty

@@ -1,0 +1,44 @@
+//! A process's parts as diagrams of a forest.
+
+ghost use Rattle.std.specs.Prelude.{◌≡◌, ℕ, ◌+◌, ◌*◌, ◌<◌, ◌≤◌, length, sum, take};
+ghost use Rattle.spd_backup.specs.Thawing.{weights_in};
+
+use spd_nodes::Ref;
+
+/// A process's probabilities and rewards as diagrams.
+#[derive(Debug, Drop)]
+pub struct Thawed {
+    /// The probabilities, in units of 10^-12: by action, then variable, then the variable's next value.
+    pub weights: Vec<Ref>,
+    /// The reward of each action, in units of 10^-9.
+    pub rewards: Vec<Ref>,
+    /// Each variable's number of values.
+    pub sizes: Vec<u8>,
+    /// The discount, in units of 10^-6.
+    pub g: u32,
+}
+
+/// The sum of variables' numbers of values.
+fn count_of(sizes: &[u8]) -> usize
+    requires { length sizes.now ≤ 100 }
+    ensures sum { result ≡ sum sizes.now }
+    ensures few { result ≤ 25500 }
+{
+    let mut count = 0;
+    for size in sizes {
+        count += *size as usize;
+    }
+    count
+}
+
+/// The weights of a variable's next values after an action, one for each value in order.
+pub fn weights_of(thawed: &Thawed, action: u32, var: usize) -> &[Ref]
+    requires few { length thawed.now.sizes.items ≤ 100 }
+    requires var { var < length thawed.now.sizes.items }
+    requires action { (action + 1) * sum thawed.now.sizes.items ≤ length thawed.now.weights.items }
+    ensures { result.now ≡ weights_in thawed.now.sizes.items thawed.now.weights.items action var }
+{
+    let sizes = thawed.sizes.as_slice();
+    let from = action as usize * count_of(sizes) + count_of(&sizes[..var]);
+    &thawed.weights[from..from + sizes[var] as usize]
+}
