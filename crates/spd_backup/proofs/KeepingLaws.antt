@@ -48,11 +48,11 @@ all-grow n discount s t tables g h = record {
 pub each-set : (way : Way) (n : ℕ) (s t : Shown) (tables : List (List Row)) (var : ℕ) (rows : List Row) → Grows s t → HoldEachSum way n s tables → var < n → HoldsSums way var t rows → HoldEachSum way n t (set tables var rows)
 each-set way n s t tables var rows g h b k = record {
   count = length-set tables var rows ∙ h.count;
-  each = λ i d c. at i d c;
+  each = holds;
 }
   where
-    at : (i : ℕ) (d : List Row) → i < n → HoldsSums way i t (get_or (set tables var rows) i d)
-    at i d c = elim (cases_eq i var) [
+    holds : (i : ℕ) (d : List Row) → i < n → HoldsSums way i t (get_or (set tables var rows) i d)
+    holds i d c = elim (cases_eq i var) [
       | inl e ↦ subst (λ j. HoldsSums way j t (get_or (set tables var rows) j d)) (sym e) (rw (get_or-set_same tables var rows d (omega (arith, b, h.count))) k)
       | inr e ↦ rw (get_or-set_other tables var i rows d e) (sums-grow way i s t (get_or tables i d) g (h.each i d c))
     ]

@@ -4,7 +4,7 @@ use Rattle.std.specs.Prelude.{slice_get}
 use Rattle.std.specs.List.{AllZip}
 use Rattle.std.proofs.lemmas.Bool.{cases_lt}
 use Rattle.std.proofs.lemmas.Grind.{flat_map-append}
-use Rattle.std.proofs.lemmas.List.{drop-drop, length-map, take_all}
+use Rattle.std.proofs.lemmas.List.{length-map, take_all}
 use Rattle.std.proofs.lemmas.List.Sums.{sum_by_more}
 use Rattle.std.proofs.lemmas.Option.{slice_get_within, get_or_from_slice_get}
 use Rattle.spd_cons_core.specs.declared.key.Entry.{Entry}
@@ -120,7 +120,7 @@ even-part g n even (y ∷ zs) (suc k) z e =
     record {
       front = g y ++ p.front;
       back = p.back;
-      is = ap (λ l. g y ++ l) p.is ∙ sym (append_assoc {a = g y} {b = p.front} {c = g z ++ p.back});
+      is = ap (λ l. g y ++ l) p.is ∙ sym (append_assoc (g y) p.front (g z ++ p.back));
       long = length-append (g y) p.front ∙ omega (arith, even y, p.long);
     }
 

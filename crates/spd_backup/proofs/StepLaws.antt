@@ -7,10 +7,11 @@ use Rattle.std.proofs.lemmas.List.Elements.{All-nil, All-cons}
 use Rattle.spd_cons_core.specs.declared.key.Entry.{Entry}
 use Rattle.spd_model.specs.declared.process.Action.{Action}
 use Rattle.spd_model.specs.Process.{Process}
-use Rattle.spd_model.specs.Numbers.{numbers_below}
+use Rattle.spd_model.specs.Numbers.{numbers_below, sum_below}
 use Rattle.spd_model.specs.States.{sizes}
 use Rattle.spd_model.proofs.CallerLemmas.StateOrder.{length-sizes}
 use Rattle.spd_nodes.specs.declared.forest.StoreFault.{StoreFault}
+use Rattle.spd_nodes.specs.declared.leaf.Leaf.TheVariants.{Num}
 use Rattle.spd_nodes.specs.Shown.{Shown, IsSound, IsWhole, Grows, StandsFor, MakesAmong, MakesDiagram, meaning}
 use Rattle.spd_nodes.specs.States.{Function, Agree}
 use Rattle.spd_nodes.proofs.CallerLemmas.{among-agrees, among-fails, among-then, diagram-agrees, grows-then, makes_among-known}
@@ -18,6 +19,7 @@ use Rattle.spd_nodes.proofs.ShownLaws.{stands-grows}
 use Rattle.spd_gather.specs.Lists.{AreKnown}
 use Rattle.spd_gather.specs.Rows.{Row}
 use Rattle.spd_restrict.specs.Chosen.{function_at}
+use Rattle.spd_restrict.specs.Restricted.{restricted}
 use Rattle.spd_weigh.specs.declared.way.Way.{Way}
 use Rattle.spd_weigh.specs.declared.way.Way.TheVariants.{Down, Up}
 use Rattle.spd_weigh.specs.Leaves.{HasValues}
@@ -39,28 +41,38 @@ use Rattle.spd_backup.proofs.PartLaws.{laid-suc, zip-length, length-weights, wei
 laid-in : (f : Function) (g : ℕ → List Function) (n i : ℕ) → i < n → IsIn f (g i) → IsIn f (flat_map g (numbers_below n))
 laid-in f g zero i b h = absurd (omega arith)
 laid-in f g (suc n) i b h =
-    subst (IsIn f) (sym (laid-suc g n)) (elim (cases_lt i n) [
+    let there : IsIn f (flat_map g (numbers_below n) ++ (g n ++ [])) = elim (cases_lt i n) [
       | inl near ↦ in-front f (flat_map g (numbers_below n)) (g n ++ []) (laid-in f g n i near h)
       | inr far ↦ (let e : i ≡ n = omega arith in in-back f (flat_map g (numbers_below n)) (g n ++ []) (in-front f (g n) [] (subst (λ j. IsIn f (g j)) e h)))
-    ])
+    ] in
+    subst (IsIn f) (sym (laid-suc g n)) there
 
 -- the functions of one bound are functions of the backup
 pub bound-in : (way : Way) (m : Process) (a : Action) (w : List ℕ → ℤ) (f : Function) → IsIn f (bound_functions way m a w) → IsIn f (backup_functions m a w)
 bound-in Down m a w f h = inr (in-front f (bound_functions Down m a w) (bound_functions Up m a w) h)
 bound-in Up m a w f h = inr (in-back f (bound_functions Down m a w) (bound_functions Up m a w) h)
 
--- a variable's sum is one of them: it is the last function of summing out
+-- the functions of summing out before the last one
+abbrev sum_parts : ℕ → List Function → Function → List Function
+sum_parts var ws f =
+    flat_map (λ v. restricted var true v f ∷ (λ s t. Num (product_at var ws f v s t)) ∷ (λ s t. Num (sum_below (suc v) (λ u. product_at var ws f u s t))) ∷ []) (numbers_below (length ws))
+
+-- a variable's sum is the last function of summing it out
 pub summed-in : (way : Way) (var : ℕ) (ws : List Function) (f : Function) → IsIn (summed_out way var ws f) (sum_out_functions way var ws f)
-summed-in way var ws f = in-back _ (flat_map _ (numbers_below (length ws))) (summed_out way var ws f ∷ []) (inl refl)
+summed-in way var ws f = in-back (summed_out way var ws f) (sum_parts var ws f) (summed_out way var ws f ∷ []) (inl refl)
 
 module _ (way : Way) (m : Process) (a : Action) (w : List ℕ → ℤ) where
   abbrev summing : ℕ → List Function
   summing i = sum_out_functions way i (weights_of m a i) (expected way m a w i)
 
+  abbrev after_sums : List Function
+  after_sums = discount_functions way m.discount (expected way m a w (length m.vars)) ++ bound way m a w ∷ []
+
   pub sum-in : (i : ℕ) → i < length m.vars → IsIn (summed_out way i (weights_of m a i) (expected way m a w i)) (backup_functions m a w)
   sum-in i b =
-      bound-in way m a w _ (in-front _ (flat_map summing (numbers_below (length m.vars))) _
-      (laid-in _ summing (length m.vars) i b (summed-in way i (weights_of m a i) (expected way m a w i))))
+      let f : Function = summed_out way i (weights_of m a i) (expected way m a w i) in
+      bound-in way m a w f (in-front f (flat_map summing (numbers_below (length m.vars))) after_sums
+      (laid-in f summing (length m.vars) i b (summed-in way i (weights_of m a i) (expected way m a w i))))
 
 -- ---- expectations that are made
 
