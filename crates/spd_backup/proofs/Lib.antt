@@ -5,4 +5,5 @@ mod CallerLemmas
 mod KeepingLaws
 mod MakingLaws
 mod PartLaws
+mod Rows
 mod StepLaws
