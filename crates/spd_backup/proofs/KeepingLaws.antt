@@ -60,3 +60,7 @@ each-set way n s t tables var rows g h b k = record {
 -- tables with no rows
 pub each-none : (way : Way) (n : ℕ) (s : Shown) (tables : List (List Row)) → length tables ≡ n → All (λ (rows : List Row). rows ≡ []) tables → HoldEachSum way n s tables
 each-none way n s tables e h = record { count = e; each = λ var d b. sums-none way var s (get_or tables var d) (h var d (omega (arith, e, b))) }
+
+-- a memo with no sums
+pub adds-none : (s : Shown) (k : KeptAnswers) (n : ℕ) → k ≡ record { pairs = []; capacity = n } → HoldAdds s k
+adds-none s k n e = record { each = λ f g r m. absurd (let h = subst (λ (v : KeptAnswers). Contains v.pairs ((f, g), r)) e m in omega (arith, h.1)) }

@@ -61,11 +61,14 @@ impl Tables {
         requires { 0 < memo_size }
         ensures { IfOk result (λ t. (discount : ℕ) (s : Shown) → HoldAll (length sizes.now) discount s t) }
     {
+        let down = WayTables::new(alloc, sizes, memo_size)?;
+        let up = WayTables::new(alloc, sizes, memo_size)?;
+        let adds = Memo::new(alloc, memo_size)?;
         Ok(Tables {
             next: None,
-            down: WayTables::new(alloc, sizes, memo_size)?,
-            up: WayTables::new(alloc, sizes, memo_size)?,
-            adds: Memo::new(alloc, memo_size)?,
+            down,
+            up,
+            adds,
         })
     }
 }

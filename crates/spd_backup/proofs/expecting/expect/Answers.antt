@@ -1,4 +1,4 @@
-use Rattle.std.proofs.Common.{◌≡◌, ℕ, ◌<◌, List, ℤ, length, refl, sym, ◌∙◌, ap, subst, arith, Ok, Err}
+use Rattle.std.proofs.Common.{◌≡◌, ℕ, ◌<◌, List, ℤ, length, refl, sym, ◌∙◌, ap, subst, arith, rules, Ok, Err}
 use Rattle.spd_model.proofs.CallerLemmas.StateOrder.{length-sizes}
 use Rattle.spd_weigh.specs.Summed.{HoldsSums}
 use Rattle.spd_backup.specs.Making.{MakesFirst}
@@ -12,6 +12,12 @@ loop-var-init g c = record {
   keeps = refl;
   sums = c.requires.sums;
 }
+
+pub index_mut-requires : goal.index_mut-requires
+index_mut-requires g c =
+    let n : length c.as_slice-sizes.result.now ≡ length c.args.thawed.now.sizes.items = ap length c.as_slice-sizes.ensures.value in
+    let b : c.loop-var.var < length c.loop-var.sums.items = omega (arith, n, c.loop-var.invariant.sums.count) in
+    search rules
 
 pub sum_variable-requires : goal.sum_variable-requires
 sum_variable-requires g c =

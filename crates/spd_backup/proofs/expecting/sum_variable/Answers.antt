@@ -1,5 +1,8 @@
 use Rattle.spd_backup.proofs.expecting.sum_variable.Goals as goal
 
+pub weights_of-requires : goal.weights_of-requires
+weights_of-requires g c = record { few = c.requires.few; var = c.requires.var_in; action = c.requires.room }
+
 pub sum_out_with-requires : goal.sum_out_with-requires
 sum_out_with-requires g c =
     let k = c.requires in
@@ -17,3 +20,9 @@ sum_out_with-requires g c =
 
 pub returns-clause-made : goal.returns-clause-made
 returns-clause-made g c = rw c.weights_of-weights.ensures at c.sum_out_with.ensures.made
+
+pub returns-clause-keeps : goal.returns-clause-keeps
+returns-clause-keeps g c = c.sum_out_with.ensures.keeps
+
+pub returns-clause-table : goal.returns-clause-table
+returns-clause-table g c = c.sum_out_with.ensures.table
