@@ -1,7 +1,7 @@
 use Rattle.spd_backup.proofs.expecting.sum_variable.Goals as goal
 
-pub weights_of-requires : goal.weights_of-requires
-weights_of-requires g c = record { few = c.requires.few; var = c.requires.var_in; action = c.requires.room }
+pub weights_of-weights-requires : goal.weights_of-weights-requires
+weights_of-weights-requires g c = record { few = c.requires.few; var = c.requires.var_in; action = c.requires.room }
 
 pub sum_out_with-requires : goal.sum_out_with-requires
 sum_out_with-requires g c =
