@@ -36,27 +36,27 @@ loop-var-preserved g c =
     record {
       made = λ m a w f.
           sum-then c.args.way m a w (g.F.Forest.shows c.args.forest.now) c.args.thawed.now c.args.action c.args.next f (g.F.Forest.shows c.loop-var.forest) (c.loop-var.invariant.made m a w f).among.grows c.loop-var.expected c.loop-var.var b (c.loop-var.invariant.made m a w f).among.ok
-          c.layout.ensures.sound (c.loop-var.invariant.made m a w f) (g.F.Forest.shows c.sum_variable.new.forest) _ c.in_ok-sum_variable.ensures.made;
+          c.layout.ensures.sound (c.loop-var.invariant.made m a w f) (g.F.Forest.shows c.sum_variable.new.forest) _ c.in_ok-expected.ensures.made;
       keeps = c.sum_variable.ensures.keeps ∙ c.loop-var.invariant.keeps;
-      sums = each-set c.args.way (length c.args.thawed.now.sizes.items) (g.F.Forest.shows c.loop-var.forest) (g.F.Forest.shows c.sum_variable.new.forest) c.loop-var.sums.items c.loop-var.var c.sum_variable.new.table c.in_ok-sum_variable.ensures.made.grows c.loop-var.invariant.sums b c.sum_variable.ensures.table;
+      sums = each-set c.args.way (length c.args.thawed.now.sizes.items) (g.F.Forest.shows c.loop-var.forest) (g.F.Forest.shows c.sum_variable.new.forest) c.loop-var.sums.items c.loop-var.var c.sum_variable.new.table c.in_ok-expected.ensures.made.grows c.loop-var.invariant.sums b c.sum_variable.ensures.table;
     }
 
-pub returns-in_err-sum_variable-clause-made : goal.returns-in_err-sum_variable-clause-made
-returns-in_err-sum_variable-clause-made g c =
+pub returns-in_err-expected-clause-made : goal.returns-in_err-expected-clause-made
+returns-in_err-expected-clause-made g c =
     let n : length c.as_slice-sizes.result.now ≡ length c.args.thawed.now.sizes.items = ap length c.as_slice-sizes.ensures.value in
     let b : c.loop-var.var < length c.args.thawed.now.sizes.items = omega arith in
     λ m a w f.
     first-fails _ (length m.vars) (sum-then c.args.way m a w (g.F.Forest.shows c.args.forest.now) c.args.thawed.now c.args.action c.args.next f (g.F.Forest.shows c.loop-var.forest) (c.loop-var.invariant.made m a w f).among.grows c.loop-var.expected c.loop-var.var b (c.loop-var.invariant.made m a w f).among.ok
-    c.layout.ensures.sound (c.loop-var.invariant.made m a w f) (g.F.Forest.shows c.sum_variable.new.forest) _ c.in_err-sum_variable.ensures.made)
+    c.layout.ensures.sound (c.loop-var.invariant.made m a w f) (g.F.Forest.shows c.sum_variable.new.forest) _ c.in_err-expected.ensures.made)
 
-pub returns-in_err-sum_variable-clause-keeps : goal.returns-in_err-sum_variable-clause-keeps
-returns-in_err-sum_variable-clause-keeps g c = c.sum_variable.ensures.keeps ∙ c.loop-var.invariant.keeps
+pub returns-in_err-expected-clause-keeps : goal.returns-in_err-expected-clause-keeps
+returns-in_err-expected-clause-keeps g c = c.sum_variable.ensures.keeps ∙ c.loop-var.invariant.keeps
 
-pub returns-in_err-sum_variable-clause-sums : goal.returns-in_err-sum_variable-clause-sums
-returns-in_err-sum_variable-clause-sums g c =
+pub returns-in_err-expected-clause-sums : goal.returns-in_err-expected-clause-sums
+returns-in_err-expected-clause-sums g c =
     let n : length c.as_slice-sizes.result.now ≡ length c.args.thawed.now.sizes.items = ap length c.as_slice-sizes.ensures.value in
     let b : c.loop-var.var < length c.args.thawed.now.sizes.items = omega arith in
-    each-set c.args.way (length c.args.thawed.now.sizes.items) (g.F.Forest.shows c.loop-var.forest) (g.F.Forest.shows c.sum_variable.new.forest) c.loop-var.sums.items c.loop-var.var c.sum_variable.new.table c.in_err-sum_variable.ensures.made.grows c.loop-var.invariant.sums b c.sum_variable.ensures.table
+    each-set c.args.way (length c.args.thawed.now.sizes.items) (g.F.Forest.shows c.loop-var.forest) (g.F.Forest.shows c.sum_variable.new.forest) c.loop-var.sums.items c.loop-var.var c.sum_variable.new.table c.in_err-expected.ensures.made.grows c.loop-var.invariant.sums b c.sum_variable.ensures.table
 
 pub returns-clause-made : goal.returns-clause-made
 returns-clause-made g c =
