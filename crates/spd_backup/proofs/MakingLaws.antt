@@ -1,5 +1,6 @@
 -- Calls one after the other that make nodes of one list of functions.
-use Rattle.std.proofs.Common.{◌≡◌, ◌⊎◌, ℕ, List, [], ◌∷◌, ◌++◌, sym, subst, inl, inr, Result}
+use Rattle.std.proofs.Common.{◌≡◌, ◌⊎◌, ℕ, List, [], ◌∷◌, ◌++◌, sym, subst, ap, inl, inr, Result, Ok, Err}
+use Rattle.std.specs.Result.{IsErrAnd}
 use Rattle.spd_cons_core.specs.declared.key.Entry.{Entry}
 use Rattle.spd_nodes.specs.declared.forest.StoreFault.{StoreFault}
 use Rattle.spd_nodes.specs.Trees.{Tree, IsNode, IsNodeOf}
@@ -40,3 +41,8 @@ among-both {s = s} {t = t} {v = v} {nodes = nodes} m n = record {
   makes = makes-then m.sound n.grows m.makes (subst (λ (z : List ℕ). MakesOnly t v (test_trees z nodes)) m.grows.sizes n.makes);
   fault = n.fault;
 }
+
+-- what a `?` hands on is the error that it found
+pub exit-is : {X E : Type 0} (r : Result X E) (e : E) → IsErrAnd r (λ (x : E). x ≡ e) → r ≡ Err e
+exit-is (Ok x) e h = absurd h
+exit-is {E = E} (Err x) e h = ap (λ (y : E). Err y) h

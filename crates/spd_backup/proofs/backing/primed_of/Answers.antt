@@ -1,9 +1,10 @@
-use Rattle.std.proofs.Common.{◌≡◌, [], ◌∷◌, refl, subst}
+use Rattle.std.proofs.Common.{◌≡◌, [], ◌∷◌, subst, sym}
 use Rattle.std.specs.Prelude.{IfSome}
-use Rattle.spd_nodes.specs.Shown.{StandsFor, meaning}
+use Rattle.spd_nodes.specs.Shown.{MakesDiagram, meaning}
 use Rattle.spd_nodes.proofs.CallerLemmas.{makes_among-known}
 use Rattle.spd_restrict.specs.Primed.{primed}
 use Rattle.spd_backup.specs.Keeping.{IsPrimed}
+use Rattle.spd_backup.proofs.MakingLaws.{exit-is}
 use Rattle.spd_backup.proofs.KeepingLaws.{last-grows, primed-made}
 use Rattle.spd_backup.proofs.backing.primed_of.Goals as goal
 
@@ -14,7 +15,9 @@ returns-in-Some-clause-made g c =
     makes_among-known s c.layout.ensures.sound c.in-Some.primed (primed (meaning s c.args.f)) (primed (meaning s c.args.f) ∷ []) p.stands
 
 pub returns-in_err-primed-clause-made : goal.returns-in_err-primed-clause-made
-returns-in_err-primed-clause-made g c = c.in_err-primed.ensures.made
+returns-in_err-primed-clause-made g c =
+    let s = g.F.Forest.shows c.args.forest.now in
+    subst (MakesDiagram s (g.F.Forest.shows c.prime.new.forest) (primed (meaning s c.args.f))) (sym (exit-is c.from_residual.result c.in_err-primed.field-0.0 c.from_residual.ensures.1)) c.in_err-primed.ensures.made
 
 pub returns-in_err-primed-clause-last : goal.returns-in_err-primed-clause-last
 returns-in_err-primed-clause-last g c = last-grows (g.F.Forest.shows c.args.forest.now) (g.F.Forest.shows c.prime.new.forest) c.args.last.now c.in_err-primed.ensures.made.grows c.requires.last
