@@ -17,7 +17,7 @@ loop-var-init g c = record {
 pub index_mut-requires : goal.index_mut-requires
 index_mut-requires g c =
     let n : length c.as_slice-sizes.result.now ≡ length c.args.thawed.now.sizes.items = ap length c.as_slice-sizes.ensures.value in
-    let b : c.loop-var.var < length c.loop-var.sums.items = omega (arith, n, c.loop-var.invariant.sums.count) in
+    let b : c.loop-var.var < length c.loop-var.sums.items = subst (λ (k : ℕ). c.loop-var.var < k) (n ∙ sym c.loop-var.invariant.sums.count) c.loop-var-test.true in
     search rules
 
 pub sum_variable-requires : goal.sum_variable-requires
@@ -25,7 +25,7 @@ sum_variable-requires g c =
     let k = c.requires.followed in
     let so = c.loop-var.invariant.made k.process k.chosen k.value k.follows in
     let n : length c.as_slice-sizes.result.now ≡ length c.args.thawed.now.sizes.items = ap length c.as_slice-sizes.ensures.value in
-    let b : c.loop-var.var < length c.args.thawed.now.sizes.items = omega arith in
+    let b : c.loop-var.var < length c.args.thawed.now.sizes.items = subst (λ (k : ℕ). c.loop-var.var < k) n c.loop-var-test.true in
     can-sum-out c.args.way k.process k.chosen k.value (g.F.Forest.shows c.args.forest.now) c.args.thawed.now c.args.action c.args.next k.follows (g.F.Forest.shows c.loop-var.forest) so.among.grows c.loop-var.expected c.loop-var.var b so.among.ok
     c.index_mut.result.now (subst (HoldsSums c.args.way c.loop-var.var (g.F.Forest.shows c.loop-var.forest)) (sym c.index_mut.ensures.value) (c.loop-var.invariant.sums.each c.loop-var.var c.index_mut.result.now b))
 
@@ -33,7 +33,7 @@ pub loop-var-preserved : goal.loop-var-preserved
 loop-var-preserved g c =
     let k = c.requires.followed in
     let n : length c.as_slice-sizes.result.now ≡ length c.args.thawed.now.sizes.items = ap length c.as_slice-sizes.ensures.value in
-    let b : c.loop-var.var < length c.args.thawed.now.sizes.items = omega arith in
+    let b : c.loop-var.var < length c.args.thawed.now.sizes.items = subst (λ (k : ℕ). c.loop-var.var < k) n c.loop-var-test.true in
     record {
       made = λ m a w f.
           sum-then c.args.way m a w (g.F.Forest.shows c.args.forest.now) c.args.thawed.now c.args.action c.args.next f (g.F.Forest.shows c.loop-var.forest) (c.loop-var.invariant.made m a w f).among.grows c.loop-var.expected c.loop-var.var b (c.loop-var.invariant.made m a w f).among.ok
@@ -45,7 +45,7 @@ loop-var-preserved g c =
 pub returns-in_err-expected-clause-made : goal.returns-in_err-expected-clause-made
 returns-in_err-expected-clause-made g c =
     let n : length c.as_slice-sizes.result.now ≡ length c.args.thawed.now.sizes.items = ap length c.as_slice-sizes.ensures.value in
-    let b : c.loop-var.var < length c.args.thawed.now.sizes.items = omega arith in
+    let b : c.loop-var.var < length c.args.thawed.now.sizes.items = subst (λ (k : ℕ). c.loop-var.var < k) n c.loop-var-test.true in
     λ m a w f.
     subst (MakesExpected c.args.way m a w (g.F.Forest.shows c.args.forest.now) (g.F.Forest.shows c.sum_variable.new.forest)) (sym (exit-is c.from_residual.result c.in_err-expected.field-0.0 c.from_residual.ensures.1))
     (first-fails c.in_err-expected.field-0.0 (length m.vars) (sum-then c.args.way m a w (g.F.Forest.shows c.args.forest.now) c.args.thawed.now c.args.action c.args.next f (g.F.Forest.shows c.loop-var.forest) (c.loop-var.invariant.made m a w f).among.grows c.loop-var.expected c.loop-var.var b (c.loop-var.invariant.made m a w f).among.ok
@@ -57,7 +57,7 @@ returns-in_err-expected-clause-keeps g c = c.sum_variable.ensures.keeps ∙ c.lo
 pub returns-in_err-expected-clause-sums : goal.returns-in_err-expected-clause-sums
 returns-in_err-expected-clause-sums g c =
     let n : length c.as_slice-sizes.result.now ≡ length c.args.thawed.now.sizes.items = ap length c.as_slice-sizes.ensures.value in
-    let b : c.loop-var.var < length c.args.thawed.now.sizes.items = omega arith in
+    let b : c.loop-var.var < length c.args.thawed.now.sizes.items = subst (λ (k : ℕ). c.loop-var.var < k) n c.loop-var-test.true in
     each-set c.args.way (length c.args.thawed.now.sizes.items) (g.F.Forest.shows c.loop-var.forest) (g.F.Forest.shows c.sum_variable.new.forest) c.loop-var.sums.items c.loop-var.var c.sum_variable.new.table c.in_err-expected.ensures.made.grows c.loop-var.invariant.sums b c.sum_variable.ensures.table
 
 pub returns-clause-made : goal.returns-clause-made
