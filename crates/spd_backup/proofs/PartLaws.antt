@@ -5,7 +5,7 @@ use Rattle.std.specs.List.{AllZip}
 use Rattle.std.proofs.lemmas.Bool.{cases_lt}
 use Rattle.std.proofs.lemmas.Grind.{flat_map-append}
 use Rattle.std.proofs.lemmas.List.{length-map, take_all}
-use Rattle.std.proofs.lemmas.List.Sums.{sum_by_more}
+use Rattle.std.proofs.lemmas.List.Sums.{sum_by_more, sum_by_more_le}
 use Rattle.std.proofs.lemmas.Option.{slice_get_within, get_or_from_slice_get}
 use Rattle.spd_cons_core.specs.declared.key.Entry.{Entry}
 use Rattle.spd_model.specs.declared.process.Action.{Action}
@@ -163,7 +163,7 @@ module _ (m : Process) (a : Action) (s : Shown) (x : Thawed) (k : ℕ) (has : Ha
       let own : sum x.sizes.items ≡ sum (sizes m) = ap sum has.thawed.own in
       let long = part-long (of-action m a k has.offered) in
       let same = zip-length (StandsFor s) x.weights.items (all_weights m) has.thawed.weights in
-      omega (arith, own, long, same, action-weights m a)
+      subst (λ (n : ℕ). (k + 1) * n ≤ length x.weights.items) (sym own) (omega (arith, long, same, action-weights m a))
 
   -- its weights of a variable
   pub weights-stand : (i : ℕ) → i < length x.sizes.items → AllZip (StandsFor s) (weights_in x.sizes.items x.weights.items k i) (weights_of m a i)
@@ -171,8 +171,8 @@ module _ (m : Process) (a : Action) (s : Shown) (x : Thawed) (k : ℕ) (has : Ha
       let own : length x.sizes.items ≡ length (sizes m) = ap length has.thawed.own in
       let z : AllZip (StandsFor s) (take (length (weights_of m a i)) (drop (k * sum (sizes m) + sum (take i (sizes m))) x.weights.items)) (weights_of m a i) =
       zip-part (StandsFor s) x.weights.items (all_weights m) (weights_of m a i) (k * sum (sizes m) + sum (take i (sizes m))) (of-variable m a k has.offered i (omega arith)) has.thawed.weights in
-      subst (λ n. AllZip (StandsFor s) (weights_in n x.weights.items k i) (weights_of m a i)) (sym has.thawed.own)
-      (subst (λ n. AllZip (StandsFor s) (take n (drop (k * sum (sizes m) + sum (take i (sizes m))) x.weights.items)) (weights_of m a i)) (length-weights m a i) z)
+      subst (λ (z : List ℕ). AllZip (StandsFor s) (weights_in z x.weights.items k i) (weights_of m a i)) (sym has.thawed.own)
+      (subst (λ (n : ℕ). AllZip (StandsFor s) (take n (drop (k * sum (sizes m) + sum (take i (sizes m))) x.weights.items)) (weights_of m a i)) (length-weights m a i) z)
 
   -- its reward
   pub reward-stands : (d : Entry) → StandsFor s (get_or x.rewards.items k d) (reward m a)
@@ -200,3 +200,9 @@ thawed-grows m s t x g h = record {
 
 pub action-grows : (m : Process) (a : Action) (s t : Shown) (x : Thawed) (k : ℕ) → Grows s t → HasAction m a s x k → HasAction m a t x k
 action-grows m a s t x k g h = record { thawed = thawed-grows m s t x g h.thawed; offered = h.offered }
+
+-- the weights of a variable stand among those of their action
+pub weights-fit : (sizes : List ℕ) (action var all : ℕ) → var < length sizes → (action + 1) * sum sizes ≤ all → action * sum sizes + sum (take var sizes) + get_or sizes var 0 ≤ all
+weights-fit sizes action var all b h =
+    let few : sum (take var sizes) + get_or sizes var 0 ≤ sum sizes = sum_by_more_le (λ x. x) sizes var 0 b in
+    omega (arith, few, h)
