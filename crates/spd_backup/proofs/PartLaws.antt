@@ -206,3 +206,5 @@ pub weights-fit : (sizes : List ℕ) (action var all : ℕ) → var < length siz
 weights-fit sizes action var all b h =
     let few : sum (take var sizes) + get_or sizes var 0 ≤ sum sizes = sum_by_more_le (λ x. x) sizes var 0 b in
     omega (arith, few, h)
+
+pub ruleset part_laws = (weights-fit)

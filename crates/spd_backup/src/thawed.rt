@@ -1,6 +1,6 @@
 //! A process's parts as diagrams of a forest.
 
-ghost use Rattle.std.specs.Prelude.{◌≡◌, ℕ, ◌+◌, ◌*◌, ◌<◌, ◌≤◌, length, sum, take};
+ghost use Rattle.std.specs.Prelude.{◌≡◌, ℕ, ◌+◌, ◌*◌, ◌<◌, ◌≤◌, length, sum, take, drop};
 ghost use Rattle.spd_backup.specs.Thawing.{weights_in};
 
 use spd_nodes::Ref;
@@ -31,7 +31,16 @@ fn count_of(sizes: &[u8]) -> usize
     count
 }
 
+/// Some of the Refs in a row.
+fn part_of(refs: &[Ref], from: usize, count: usize) -> &[Ref]
+    requires { from + count ≤ length refs.now }
+    ensures { result.now ≡ take count (drop from refs.now) }
+{
+    &refs[from..from + count]
+}
+
 /// The weights of a variable's next values after an action, one for each value in order.
+#[tactic(auto, using(crate::proofs::PartLaws::part_laws))]
 pub fn weights_of(thawed: &Thawed, action: u32, var: usize) -> &[Ref]
     requires few { length thawed.now.sizes.items ≤ 100 }
     requires var { var < length thawed.now.sizes.items }
@@ -39,6 +48,8 @@ pub fn weights_of(thawed: &Thawed, action: u32, var: usize) -> &[Ref]
     ensures { result.now ≡ weights_in thawed.now.sizes.items thawed.now.weights.items action var }
 {
     let sizes = thawed.sizes.as_slice();
-    let from = action as usize * count_of(sizes) + count_of(&sizes[..var]);
-    &thawed.weights[from..from + sizes[var] as usize]
+    let all = count_of(sizes);
+    let before = count_of(&sizes[..var]);
+    let from = action as usize * all + before;
+    part_of(thawed.weights.as_slice(), from, sizes[var] as usize)
 }
