@@ -5,8 +5,8 @@ use Rattle.std.proofs.lemmas.Bool.{cases_eq}
 use Rattle.std.proofs.lemmas.List.{length-set, get_or-set_same, get_or-set_other}
 use Rattle.spd_cons_core.specs.declared.key.Entry.{Entry}
 use Rattle.spd_memo.specs.Kept.{KeptAnswers}
-use Rattle.spd_nodes.specs.Shown.{Shown, Grows, MakesDiagram, meaning}
-use Rattle.spd_nodes.specs.States.{Function}
+use Rattle.spd_nodes.specs.Shown.{Shown, Grows, StandsFor, MakesDiagram, meaning}
+use Rattle.spd_nodes.specs.States.{Function, function_of}
 use Rattle.spd_nodes.proofs.ShownLaws.{stands-grows}
 use Rattle.spd_apply.specs.Rules.{Making, IsAnswer, HoldsAnswers}
 use Rattle.spd_apply.proofs.MemoLaws.{answers-grow}
@@ -19,6 +19,9 @@ use Rattle.spd_backup.specs.declared.tables.Tables.{Tables}
 use Rattle.spd_backup.specs.declared.tables.WayTables.{WayTables}
 use Rattle.spd_backup.specs.Keeping.{HoldEachSum, HoldWay, HoldAdds, HoldAll, IsPrimed}
 
+meaning-grows : (s t : Shown) (r : Entry) → Grows s t → s.knows r ≡ true → meaning t r ≡ meaning s r
+meaning-grows s t r g k = λ i. function_of (g.sizes i) (g.trees r k i)
+
 pub each-grow : (way : Way) (n : ℕ) (s t : Shown) (tables : List (List Row)) → Grows s t → HoldEachSum way n s tables → HoldEachSum way n t tables
 each-grow way n s t tables g h = record { count = h.count; each = λ var d b. sums-grow way var s t (get_or tables var d) g (h.each var d b) }
 
@@ -26,7 +29,7 @@ pub way-grows : (way : Way) (n discount : ℕ) (s t : Shown) (tables : WayTables
 way-grows way n discount s t tables g h = record { sums = each-grow way n s t tables.sums.items g h.sums; discounts = discounts-grow way discount s t tables.discounts g h.discounts }
 
 pub primed-grows : (s t : Shown) (f r : Entry) → Grows s t → IsPrimed s f r → IsPrimed t f r
-primed-grows s t f r g h = record { known = g.knows f h.known; stands = rw (g.sizes, g.trees f h.known) (stands-grows g h.stands) }
+primed-grows s t f r g h = record { known = g.knows f h.known; stands = subst (λ (q : Function). StandsFor t r (primed q)) (sym (meaning-grows s t f g h.known)) (stands-grows g h.stands) }
 
 pub last-grows : (s t : Shown) (last : Option (Entry × Entry)) → Grows s t → IfSome last (λ p. IsPrimed s p.0 p.1) → IfSome last (λ p. IsPrimed t p.0 p.1)
 last-grows s t None g h = tt
@@ -34,7 +37,7 @@ last-grows s t (Some p) g h = primed-grows s t p.0 p.1 g h
 
 -- a diagram that was primed
 pub primed-made : (s t : Shown) (f r : Entry) → s.knows f ≡ true → MakesDiagram s t (primed (meaning s f)) (Ok r) → IsPrimed t f r
-primed-made s t f r k h = record { known = h.grows.knows f k; stands = rw (h.grows.sizes, h.grows.trees f k) h.ok }
+primed-made s t f r k h = record { known = h.grows.knows f k; stands = subst (λ (q : Function). StandsFor t r (primed q)) (sym (meaning-grows s t f h.grows k)) h.ok }
 
 pub all-grow : (n discount : ℕ) (s t : Shown) (tables : Tables) → Grows s t → HoldAll n discount s tables → HoldAll n discount t tables
 all-grow n discount s t tables g h = record {
