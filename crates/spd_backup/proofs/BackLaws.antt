@@ -69,12 +69,12 @@ module _ (m : Process) (a : Action) (value : List ℕ → ℤ) (s : Shown) (x : 
         grows = h.grows;
         ok = h.ok;
         makes = makes-within (within-in s.sizes (next_value value) (backup_functions m a value) (inl refl)) h.makes;
-        fault = fault-all r h.fault;
+        fault = fault-all t r h.fault;
       }
     where
-      fault-all : {t : Shown} (r : Result Entry StoreFault) → IfErr r (λ e. FaultsAt e t (next_value value ∷ [])) → IfErr r (λ e. FaultsAt e t (backup_functions m a value))
-      fault-all (Ok q) h = tt
-      fault-all {t = t} (Err e) h = fault-within t e h
+      fault-all : (t : Shown) (r : Result Entry StoreFault) → IfErr r (λ e. FaultsAt e t (next_value value ∷ [])) → IfErr r (λ e. FaultsAt e t (backup_functions m a value))
+      fault-all t (Ok q) h = tt
+      fault-all t (Err e) h = fault-within t e h
 
   pub next-follows : HasValues s.sizes (meaning s w) → (t : Shown) (next : Entry) → MakesAmong s t (next_value value) (backup_functions m a value) (Ok next) → Follows m a value t x k next
   next-follows h t next made = record { has = action-grows m a s t x k made.grows has; bounded = bounded h; stands = made.ok }
