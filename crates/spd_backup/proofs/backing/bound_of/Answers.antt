@@ -53,10 +53,10 @@ pub returns-in_err-later-clause-made : goal.returns-in_err-later-clause-made
 returns-in_err-later-clause-made g c = λ m a w f.
     subst (MakesBound c.args.way m a w (g.F.Forest.shows c.args.forest.now) (g.F.Forest.shows c.discount_with.new.forest)) (sym (exit-is c.from_residual-in_err-later.result c.in_err-later.field-0.0 c.from_residual-in_err-later.ensures.1))
     (record {
-  among = among-fails c.in_err-later.field-0.0 (later-made c.args.way m a w (g.F.Forest.shows c.args.forest.now) c.layout.ensures.sound c.args.thawed.now c.args.action c.args.next f (g.F.Forest.shows c.expect.new.forest) c.in_ok-expected.expected (c.in_ok-expected.ensures.made m a w f)
-      (g.F.Forest.shows c.discount_with.new.forest) _ c.in_err-later.ensures.made);
-  known = tt;
-})
+      among = among-fails c.in_err-later.field-0.0 (later-made c.args.way m a w (g.F.Forest.shows c.args.forest.now) c.layout.ensures.sound c.args.thawed.now c.args.action c.args.next f (g.F.Forest.shows c.expect.new.forest) c.in_ok-expected.expected (c.in_ok-expected.ensures.made m a w f)
+          (g.F.Forest.shows c.discount_with.new.forest) _ c.in_err-later.ensures.made);
+      known = tt;
+    })
 
 pub returns-in_err-later-clause-keeps : goal.returns-in_err-later-clause-keeps
 returns-in_err-later-clause-keeps g c = c.discount_with.ensures.keeps ∙ c.expect.ensures.keeps
