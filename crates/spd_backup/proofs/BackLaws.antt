@@ -1,5 +1,5 @@
 -- A backup: the primed value, and both bounds.
-use Rattle.std.proofs.Common.{◌≡◌, ℕ, List, [], ◌∷◌, length, refl, sym, ◌∙◌, ap, subst, inl, ℤ, pos, Result, Ok, Err, IfOk, IfErr, true}
+use Rattle.std.proofs.Common.{◌≡◌, ℕ, List, [], ◌∷◌, refl, subst, inl, ℤ, Result, Ok, Err, IfErr}
 use Rattle.spd_cons_core.specs.declared.key.Entry.{Entry}
 use Rattle.spd_model.specs.declared.process.Action.{Action}
 use Rattle.spd_model.specs.Process.{Process}
@@ -9,16 +9,15 @@ use Rattle.spd_nodes.specs.declared.leaf.Leaf.{Leaf}
 use Rattle.spd_nodes.specs.declared.leaf.Leaf.TheVariants.{Num, Pair, Act}
 use Rattle.spd_nodes.specs.declared.forest.StoreFault.{StoreFault}
 use Rattle.spd_nodes.specs.declared.forest.StoreFault.TheVariants as F
-use Rattle.spd_nodes.specs.Shown.{Shown, IsSound, Grows, StandsFor, FaultsAt, MakesAmong, MakesDiagram, meaning}
-use Rattle.spd_nodes.specs.States.{Function, Agree, test_tree, test_trees}
-use Rattle.spd_nodes.proofs.CallerLemmas.{Within, diagram-agrees, grows-none, grows-then}
+use Rattle.spd_nodes.specs.Shown.{Shown, IsSound, Grows, FaultsAt, MakesAmong, MakesDiagram, meaning}
+use Rattle.spd_nodes.specs.States.{Function, Agree, test_trees}
+use Rattle.spd_nodes.proofs.CallerLemmas.{diagram-agrees, grows-none}
 use Rattle.spd_nodes.proofs.ShownLaws.{faults-within, makes-none, makes-within, stands-grows}
 use Rattle.spd_restrict.specs.Primed.{primed}
 use Rattle.spd_weigh.specs.declared.way.Way.TheVariants.{Down, Up}
 use Rattle.spd_weigh.specs.Leaves.{number_of, IsValue, HasValues}
-use Rattle.spd_backup.specs.declared.backing.Bounds.{Bounds}
 use Rattle.spd_backup.specs.declared.thawed.Thawed.{Thawed}
-use Rattle.spd_backup.specs.Expected.{next_value, bound, backup_functions, AreBounds, BacksUp}
+use Rattle.spd_backup.specs.Expected.{next_value, bound, backup_functions, BacksUp}
 use Rattle.spd_backup.specs.Thawing.{HasAction, HasNumbers, IsThawed}
 use Rattle.spd_backup.specs.Making.{Follows, IsFollowed, MakesBound}
 use Rattle.spd_backup.proofs.MakingLaws.{within-in, among-both}

@@ -1,5 +1,5 @@
 -- The discounted expectation, added to the reward, is the bound; and both bounds are a backup.
-use Rattle.std.proofs.Common.{◌≡◌, ◌⊎◌, ℕ, ◌+◌, ◌<◌, ◌≤◌, ◌^◌, true, List, [], ◌∷◌, ◌++◌, length, map, flat_map, get_or, refl, sym, ◌∙◌, ap, subst, arith, inl, inr, ℤ, pos, negsuc, ◌+ℤ◌, ◌*ℤ◌, ◌≤ℤ◌, Result, Ok, Err, IfOk, IfErr}
+use Rattle.std.proofs.Common.{◌≡◌, ℕ, ◌≤◌, ◌^◌, true, List, [], ◌∷◌, length, flat_map, get_or, refl, sym, ◌∙◌, ap, subst, arith, inl, inr, ℤ, pos, negsuc, ◌+ℤ◌, ◌*ℤ◌, Result, Ok, Err, IfOk}
 use Rattle.std.proofs.lemmas.Bool.Decides.{Decides-ltb}
 use Rattle.std.proofs.lemmas.Int.{ints}
 use Rattle.spd_scaled.specs.Scaled.{IsWithin}
@@ -10,34 +10,28 @@ use Rattle.spd_model.specs.Numbers.{numbers_below}
 use Rattle.spd_model.specs.States.{sizes, IsState}
 use Rattle.spd_model.specs.Chances.{discount_one, reward_of}
 use Rattle.spd_model.specs.Backup.{expectation, return_of}
-use Rattle.spd_model.specs.Turns.{IsBounded, value_limit}
+use Rattle.spd_model.specs.Turns.{value_limit}
 use Rattle.spd_model.proofs.CallerLemmas.Bounded.{return_limited}
 use Rattle.spd_model.proofs.CallerLemmas.StateOrder.{length-sizes}
-use Rattle.spd_nodes.specs.declared.leaf.Leaf.{Leaf}
-use Rattle.spd_nodes.specs.declared.leaf.Leaf.TheVariants.{Num, Pair, Act}
+use Rattle.spd_nodes.specs.declared.leaf.Leaf.TheVariants.{Num}
 use Rattle.spd_nodes.specs.declared.forest.StoreFault.{StoreFault}
-use Rattle.spd_nodes.specs.declared.forest.StoreFault.TheVariants as F
-use Rattle.spd_nodes.specs.Shown.{Shown, IsSound, Grows, StandsFor, FaultsAt, MakesAmong, MakesDiagram, meaning}
-use Rattle.spd_nodes.specs.States.{Function, Agree, test_tree, test_trees}
-use Rattle.spd_nodes.proofs.CallerLemmas.{Within, among-then, diagram-agrees, grows-none, grows-then}
-use Rattle.spd_nodes.proofs.ShownLaws.{faults-within, makes-none, makes-within, stands-grows}
+use Rattle.spd_nodes.specs.Shown.{Shown, IsSound, StandsFor, MakesAmong, MakesDiagram, meaning}
+use Rattle.spd_nodes.specs.States.{Function, Agree}
+use Rattle.spd_nodes.proofs.CallerLemmas.{among-then, diagram-agrees, grows-then}
+use Rattle.spd_nodes.proofs.ShownLaws.{stands-grows}
 use Rattle.spd_apply.specs.Operations.{in_i128, num_fits, num_of}
 use Rattle.spd_apply.specs.Outcome.{FitEverywhere, at_each}
-use Rattle.spd_restrict.specs.Primed.{primed}
 use Rattle.spd_weigh.specs.declared.way.Way.{Way}
-use Rattle.spd_weigh.specs.declared.way.Way.TheVariants.{Down, Up}
-use Rattle.spd_weigh.specs.Discounting.{discounted, discount_functions}
-use Rattle.spd_weigh.specs.Leaves.{rounding_of, number_of, IsValue, HasValues}
+use Rattle.spd_weigh.specs.Discounting.{discounted}
+use Rattle.spd_weigh.specs.Leaves.{rounding_of, number_of, HasValues}
 use Rattle.spd_weigh.specs.Weighing.{sum_out_functions}
-use Rattle.spd_backup.specs.declared.backing.Bounds.{Bounds}
 use Rattle.spd_backup.specs.declared.thawed.Thawed.{Thawed}
-use Rattle.spd_backup.specs.Functions.{numbers, weights_of, reward}
-use Rattle.spd_backup.specs.Expected.{next_value, expected, bound, bound_functions, backup_functions, AreExpected, AreBounds, BacksUp}
-use Rattle.spd_backup.specs.Thawing.{HasAction, HasNumbers, IsThawed}
-use Rattle.spd_backup.specs.Making.{Follows, IsFollowed, MakesFirst, MakesBound}
+use Rattle.spd_backup.specs.Functions.{weights_of, reward}
+use Rattle.spd_backup.specs.Expected.{expected, bound, backup_functions, AreExpected}
+use Rattle.spd_backup.specs.Making.{Follows, MakesFirst, MakesBound}
 use Rattle.spd_backup.proofs.BridgeLaws.{way-keeps, expected-all, has-values}
-use Rattle.spd_backup.proofs.MakingLaws.{IsIn, in-front, in-back, within-in, among-both}
-use Rattle.spd_backup.proofs.PartLaws.{action-grows, reward-stands, reward-room, is-offered}
+use Rattle.spd_backup.proofs.MakingLaws.{IsIn, in-back, within-in}
+use Rattle.spd_backup.proofs.PartLaws.{reward-stands, is-offered}
 use Rattle.spd_backup.proofs.StepLaws.{bound-in, expected-grows}
 
 within-i128 : (z : ℤ) → IsWithin (pos value_limit) z → in_i128 z ≡ true

@@ -1,35 +1,32 @@
 -- Summing out over a process's weights, and discounting, give its expectations and bounds.
-use Rattle.std.proofs.Common.{◌≡◌, ℕ, zero, suc, ◌+◌, ◌<◌, ◌≤◌, List, [], ◌∷◌, length, map, drop, set, get_or, slice_index, refl, sym, ◌∙◌, ap, subst, arith, ℤ, pos, ◌*ℤ◌, ◌≤ℤ◌, Contains, add-one}
-use Rattle.std.specs.Prelude.{Some}
+use Rattle.std.proofs.Common.{◌≡◌, ℕ, zero, suc, ◌<◌, ◌≤◌, List, [], ◌∷◌, length, map, drop, set, get_or, slice_index, sym, ◌∙◌, ap, subst, arith, ℤ, ◌*ℤ◌, Contains, add-one}
 use Rattle.std.specs.List.{AllZip}
-use Rattle.std.proofs.lemmas.List.{drop_all, drop-set, drop-set-lt, get_or-map, length-map}
+use Rattle.std.proofs.lemmas.List.{drop_all, drop-set, drop-set-lt, get_or-map}
 use Rattle.spd_cons_core.specs.declared.key.Entry.{Entry}
 use Rattle.spd_model.specs.declared.process.Action.{Action}
 use Rattle.spd_model.specs.Process.{Process}
 use Rattle.spd_model.specs.Lawful.{IsLawful}
 use Rattle.spd_model.specs.Numbers.{numbers_below, sum_below}
 use Rattle.spd_model.specs.States.{sizes, IsState}
-use Rattle.spd_model.specs.Chances.{one, discount_one, probability, reward_of, IsValid}
+use Rattle.spd_model.specs.Chances.{one, probability, IsValid}
 use Rattle.spd_model.specs.Backup.{expected_by, expectation}
 use Rattle.spd_model.specs.Turns.{IsBounded}
-use Rattle.spd_model.proofs.CallerLemmas.Bounded.{KeepsWithin, floor_keeps, ceil_keeps, expected_limited, return_limited}
+use Rattle.spd_model.proofs.CallerLemmas.Bounded.{KeepsWithin, floor_keeps, ceil_keeps, expected_limited}
 use Rattle.spd_model.proofs.CallerLemmas.Chances.{chances_of}
 use Rattle.spd_model.proofs.CallerLemmas.Lists.{length-numbers_below, get_or-numbers_below}
 use Rattle.spd_model.proofs.CallerLemmas.StateOrder.{length-IsState, length-sizes, IsState-own}
 use Rattle.spd_model.proofs.CallerLemmas.Sums.{sum_below-cong}
-use Rattle.spd_nodes.specs.declared.leaf.Leaf.{Leaf}
 use Rattle.spd_nodes.specs.declared.leaf.Leaf.TheVariants.{Num, Act}
 use Rattle.spd_nodes.specs.Shown.{Shown, StandsFor, meaning}
 use Rattle.spd_nodes.specs.States.{Function, Agree}
 use Rattle.spd_restrict.specs.Chosen.{function_at}
 use Rattle.spd_weigh.specs.declared.way.Way.{Way}
 use Rattle.spd_weigh.specs.declared.way.Way.TheVariants.{Down, Up}
-use Rattle.spd_weigh.specs.Discounting.{discounted}
 use Rattle.spd_weigh.specs.Leaves.{rounding_of, number_of, IsWeight, IsValue, HasValues}
 use Rattle.spd_weigh.specs.Weighing.{summed_out, product_at, weight_at, AreWeights}
 use Rattle.spd_backup.specs.Functions.{weight, weights_of}
 use Rattle.spd_backup.specs.Expected.{expected}
-use Rattle.spd_backup.proofs.PartLaws.{length-weights, zip-length}
+use Rattle.spd_backup.proofs.PartLaws.{length-weights}
 
 pub way-keeps : (way : Way) → KeepsWithin (rounding_of way)
 way-keeps Down = floor_keeps

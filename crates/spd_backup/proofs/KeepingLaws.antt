@@ -1,5 +1,5 @@
 -- Tables go on to hold what they hold while the forest grows.
-use Rattle.std.proofs.Common.{◌≡◌, ℕ, ◌<◌, ◌≤◌, List, [], ◌∷◌, length, get_or, set, refl, sym, ◌∙◌, ap, subst, arith, inl, inr, Some, None, Ok, true, ◌+ℤ◌, All}
+use Rattle.std.proofs.Common.{◌≡◌, ℕ, ◌<◌, List, [], length, get_or, set, sym, ◌∙◌, subst, arith, inl, inr, Some, None, Ok, true, All}
 use Rattle.std.specs.Prelude.{Option, IfSome, Contains}
 use Rattle.std.proofs.lemmas.Bool.{cases_eq}
 use Rattle.std.proofs.lemmas.List.{length-set, get_or-set_same, get_or-set_other}
@@ -8,13 +8,12 @@ use Rattle.spd_memo.specs.Kept.{KeptAnswers}
 use Rattle.spd_nodes.specs.Shown.{Shown, Grows, StandsFor, MakesDiagram, meaning}
 use Rattle.spd_nodes.specs.States.{Function, function_of}
 use Rattle.spd_nodes.proofs.ShownLaws.{stands-grows}
-use Rattle.spd_apply.specs.Rules.{Making, IsAnswer, HoldsAnswers}
 use Rattle.spd_apply.proofs.MemoLaws.{answers-grow}
 use Rattle.spd_gather.specs.Rows.{Row}
 use Rattle.spd_restrict.specs.Primed.{primed}
 use Rattle.spd_weigh.specs.declared.way.Way.{Way}
 use Rattle.spd_weigh.specs.Summed.{HoldsSums}
-use Rattle.spd_weigh.proofs.CallerLemmas.{discounts-grow, discounts-none, sums-grow, sums-none}
+use Rattle.spd_weigh.proofs.CallerLemmas.{discounts-grow, sums-grow, sums-none}
 use Rattle.spd_backup.specs.declared.tables.Tables.{Tables}
 use Rattle.spd_backup.specs.declared.tables.WayTables.{WayTables}
 use Rattle.spd_backup.specs.Keeping.{HoldEachSum, HoldWay, HoldAdds, HoldAll, IsPrimed}

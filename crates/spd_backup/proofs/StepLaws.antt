@@ -1,5 +1,5 @@
 -- An expectation with one variable more summed out.
-use Rattle.std.proofs.Common.{◌≡◌, ◌⊎◌, ℕ, zero, suc, ◌+◌, ◌<◌, ◌≤◌, List, [], ◌∷◌, ◌++◌, length, map, flat_map, get_or, slice_index, refl, sym, ◌∙◌, ap, subst, arith, inl, inr, true, All, ℤ, pos, Result, Ok, Err, IfOk}
+use Rattle.std.proofs.Common.{◌≡◌, ℕ, zero, suc, ◌+◌, ◌<◌, List, [], ◌∷◌, ◌++◌, length, map, flat_map, get_or, refl, sym, ◌∙◌, ap, subst, arith, inl, inr, true, All, ℤ, Result, Ok, Err, IfOk}
 use Rattle.std.specs.List.{AllZip}
 use Rattle.std.proofs.lemmas.Bool.{cases_lt}
 use Rattle.std.proofs.lemmas.List.{length-map}
@@ -14,7 +14,7 @@ use Rattle.spd_nodes.specs.declared.forest.StoreFault.{StoreFault}
 use Rattle.spd_nodes.specs.declared.leaf.Leaf.TheVariants.{Num}
 use Rattle.spd_nodes.specs.Shown.{Shown, IsSound, IsWhole, Grows, StandsFor, MakesAmong, MakesDiagram, meaning}
 use Rattle.spd_nodes.specs.States.{Function, Agree}
-use Rattle.spd_nodes.proofs.CallerLemmas.{among-agrees, among-fails, among-then, diagram-agrees, grows-then, makes_among-known}
+use Rattle.spd_nodes.proofs.CallerLemmas.{among-agrees, among-fails, among-then, diagram-agrees, makes_among-known}
 use Rattle.spd_nodes.proofs.ShownLaws.{stands-grows}
 use Rattle.spd_gather.specs.Lists.{AreKnown}
 use Rattle.spd_gather.specs.Rows.{Row}
@@ -27,9 +27,9 @@ use Rattle.spd_weigh.specs.Discounting.{discount_functions}
 use Rattle.spd_weigh.specs.Summed.{HoldsSums}
 use Rattle.spd_weigh.specs.Weighing.{summed_out, AreWeights, sum_out_functions, product_at}
 use Rattle.spd_backup.specs.declared.thawed.Thawed.{Thawed}
-use Rattle.spd_backup.specs.Functions.{weight, weights_of}
-use Rattle.spd_backup.specs.Expected.{next_value, expected, bound, bound_functions, backup_functions, IsMade, AreExpected}
-use Rattle.spd_backup.specs.Thawing.{weights_in, IsThawedOf, HasAction}
+use Rattle.spd_backup.specs.Functions.{weights_of}
+use Rattle.spd_backup.specs.Expected.{next_value, expected, bound, bound_functions, backup_functions, AreExpected}
+use Rattle.spd_backup.specs.Thawing.{weights_in, HasAction}
 use Rattle.spd_backup.specs.Making.{Follows, MakesFirst, CanSumOut}
 use Rattle.spd_backup.proofs.BridgeLaws.{summed-agrees, summed-expected, zip-agrees, weight-at, are-weights, has-values}
 use Rattle.spd_backup.proofs.MakingLaws.{IsIn, in-front, in-back, within-in}

@@ -1,5 +1,5 @@
 -- The expectations and bounds of an action, as functions of the present and the next state, and the functions of a backup.
-use Rattle.std.specs.Prelude.{◌≡◌, ℕ, suc, ◌<◌, List, [], ◌∷◌, ◌++◌, length, flat_map, drop, ℤ, slice_index, Result, IfOk, IfErr}
+use Rattle.std.specs.Prelude.{ℕ, suc, ◌<◌, List, [], ◌∷◌, ◌++◌, length, flat_map, drop, ℤ, slice_index, Result, IfOk, IfErr}
 use Rattle.spd_cons_core.specs.declared.key.Entry.{Entry}
 use Rattle.spd_model.specs.declared.process.Action.{Action}
 use Rattle.spd_model.specs.Process.{Process}

@@ -1,4 +1,4 @@
-use Rattle.std.proofs.Common.{◌≡◌, ℕ, List, length, ap, subst, refl}
+use Rattle.std.proofs.Common.{length, ap, subst, refl}
 use Rattle.spd_backup.specs.Keeping.{HoldAll}
 use Rattle.spd_backup.proofs.BackLaws.{back-none}
 use Rattle.spd_backup.proofs.backing.backup.Goals as goal

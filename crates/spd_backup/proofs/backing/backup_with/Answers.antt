@@ -1,4 +1,4 @@
-use Rattle.std.proofs.Common.{◌≡◌, length, ◌∙◌, sym, subst, Ok}
+use Rattle.std.proofs.Common.{length, ◌∙◌, sym, subst, Ok}
 use Rattle.spd_nodes.proofs.CallerLemmas.{grows-then}
 use Rattle.spd_apply.proofs.MemoLaws.{answers-grow}
 use Rattle.spd_weigh.specs.declared.way.Way.TheVariants.{Down, Up}

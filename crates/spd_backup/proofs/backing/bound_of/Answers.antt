@@ -1,4 +1,4 @@
-use Rattle.std.proofs.Common.{◌≡◌, ◌<◌, length, rules, ◌∙◌, sym, subst}
+use Rattle.std.proofs.Common.{◌<◌, length, rules, ◌∙◌, sym, subst}
 use Rattle.spd_backup.specs.Making.{MakesBound}
 use Rattle.spd_nodes.proofs.CallerLemmas.{among-fails, grows-then}
 use Rattle.spd_apply.proofs.MemoLaws.{answers-grow}

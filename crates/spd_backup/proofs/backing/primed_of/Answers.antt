@@ -1,4 +1,4 @@
-use Rattle.std.proofs.Common.{◌≡◌, [], ◌∷◌, subst, sym}
+use Rattle.std.proofs.Common.{[], ◌∷◌, subst, sym}
 use Rattle.std.specs.Prelude.{IfSome}
 use Rattle.spd_nodes.specs.Shown.{MakesDiagram, meaning}
 use Rattle.spd_nodes.proofs.CallerLemmas.{makes_among-known}

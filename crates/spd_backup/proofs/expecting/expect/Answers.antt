@@ -1,4 +1,4 @@
-use Rattle.std.proofs.Common.{◌≡◌, ℕ, ◌<◌, List, ℤ, length, refl, sym, ◌∙◌, ap, subst, arith, rules, Ok, Err}
+use Rattle.std.proofs.Common.{◌≡◌, ℕ, ◌<◌, length, refl, sym, ◌∙◌, ap, subst, arith, rules, Ok}
 use Rattle.spd_model.proofs.CallerLemmas.StateOrder.{length-sizes}
 use Rattle.spd_weigh.specs.Summed.{HoldsSums}
 use Rattle.spd_backup.specs.Making.{MakesFirst, MakesExpected}

@@ -1,6 +1,4 @@
-use Rattle.std.proofs.Common.{◌≡◌, ◌+◌, ◌∷◌, [], ◌++◌, length, length-append, arith, List, ap, ◌∙◌}
-use Rattle.std.proofs.lemmas.List.Elements.{All-nil, All-push}
-use Rattle.spd_gather.specs.Rows.{Row}
+use Rattle.std.proofs.Common.{arith}
 use Rattle.spd_backup.proofs.KeepingLaws.{each-none}
 use Rattle.spd_backup.proofs.tables.sum_tables.Goals as goal
 
