@@ -1,0 +1,9 @@
+mod BackLaws
+mod BridgeLaws
+mod BoundLaws
+mod CallerLemmas
+mod KeepingLaws
+mod MakingLaws
+mod PartLaws
+mod Rows
+mod StepLaws

@@ -1,0 +1,41 @@
+-- What the tables of a backup hold.
+use Rattle.std.specs.Prelude.{◌≡◌, ℕ, ◌<◌, List, true, length, slice_index_or, ◌+ℤ◌, IfSome}
+use Rattle.spd_cons_core.specs.declared.key.Entry.{Entry}
+use Rattle.spd_memo.specs.Kept.{KeptAnswers}
+use Rattle.spd_nodes.specs.Shown.{Shown, StandsFor, meaning}
+use Rattle.spd_apply.specs.Applied.{applied}
+use Rattle.spd_apply.specs.Operations.{num_of}
+use Rattle.spd_apply.specs.Rules.{HoldsAnswers}
+use Rattle.spd_gather.specs.Rows.{Row}
+use Rattle.spd_restrict.specs.Primed.{primed}
+use Rattle.spd_weigh.specs.declared.way.Way.{Way}
+use Rattle.spd_weigh.specs.declared.way.Way.TheVariants.{Down, Up}
+use Rattle.spd_weigh.specs.Summed.{HoldsSums, HoldsDiscounts}
+use Rattle.spd_backup.specs.declared.tables.Tables.{Tables}
+use Rattle.spd_backup.specs.declared.tables.WayTables.{WayTables}
+
+-- one table for each of so many variables, which holds sums over that variable, rounded one way
+pub record HoldEachSum (way : Way) (n : ℕ) (s : Shown) (tables : List (List Row)) : Type 0 where
+  pub count : length tables ≡ n
+  pub each : (var : ℕ) (d : List Row) → var < n → HoldsSums way var s (slice_index_or tables var d)
+
+-- the tables of one way of rounding, for so many variables and a discount
+pub record HoldWay (way : Way) (n discount : ℕ) (s : Shown) (t : WayTables) : Type 0 where
+  pub sums : HoldEachSum way n s t.sums.items
+  pub discounts : HoldsDiscounts way discount s t.discounts
+
+-- sums of numbers
+abbrev pub HoldAdds : Shown → KeptAnswers → Type 0
+HoldAdds s memo = HoldsAnswers (applied (num_of (λ x y. x +ℤ y))) s memo
+
+-- a diagram, and that of its function at the next state
+pub record IsPrimed (s : Shown) (f r : Entry) : Type 0 where
+  pub known : s.knows f ≡ true
+  pub stands : StandsFor s r (primed (meaning s f))
+
+-- all tables, for so many variables and a discount: each holds answers of its operation alone
+pub record HoldAll (n discount : ℕ) (s : Shown) (t : Tables) : Type 0 where
+  pub next : IfSome t.next (λ p. IsPrimed s p.0 p.1)
+  pub down : HoldWay Down n discount s t.down
+  pub up : HoldWay Up n discount s t.up
+  pub adds : HoldAdds s t.adds

@@ -1,0 +1,5 @@
+pub mod Functions
+pub mod Expected
+pub mod Thawing
+pub mod Keeping
+pub mod Making

@@ -1,0 +1,79 @@
+//! The expectation of a value after an action.
+
+ghost use Rattle.std.specs.Prelude.{◌≡◌, ℕ, List, ℤ, length, map};
+ghost use Rattle.spd_model.specs.Process.{Process};
+ghost use Rattle.spd_model.specs.declared.process.Action.{Action};
+ghost use Rattle.spd_nodes.specs.Shown.{Shown, MakesDiagram, meaning};
+ghost use Rattle.spd_weigh.specs.Summed.{HoldsSums};
+ghost use Rattle.spd_weigh.specs.Weighing.{summed_out};
+ghost use Rattle.spd_backup.specs.Thawing.{weights_in};
+ghost use Rattle.spd_backup.specs.Keeping.{HoldEachSum};
+ghost use Rattle.spd_backup.specs.Making.{IsFollowed, Follows, MakesExpected, CanSumOut};
+
+use crate::thawed::{Thawed, weights_of};
+use spd_apply::OpFault;
+use spd_gather::Table;
+use spd_nodes::{Forest, Ref, Steps};
+use spd_weigh::{Way, sum_out_with};
+use std::alloc::Global;
+use std::sync::ledger::Ledger;
+
+/// An expectation with one variable more summed out, by an action's weights of it.
+fn sum_variable<F: Forest, L: Ledger>(
+    alloc: Global,
+    forest: &mut F,
+    thawed: &Thawed,
+    expected: Ref,
+    action: u32,
+    var: usize,
+    way: Way,
+    table: &mut Table,
+    steps: &mut Steps<L>,
+) -> Result<Ref, OpFault>
+    requires { CanSumOut way (F.shows forest.old) thawed.now expected action var table.old }
+    ensures made { MakesDiagram (F.shows forest.old) (F.shows forest.new) (summed_out way var (map (meaning (F.shows forest.old)) (weights_in thawed.now.sizes.items thawed.now.weights.items action var)) (meaning (F.shows forest.old) expected)) result }
+    ensures keeps { F.kept forest.new ≡ F.kept forest.old }
+    ensures table { HoldsSums way var (F.shows forest.new) table.new }
+{
+    let weights = weights_of(thawed, action, var);
+    sum_out_with(
+        alloc, forest, expected, var as u32, weights, way, table, steps,
+    )
+}
+
+/// The expectation of a primed value after an action: the variables' next values are summed out in order, one after another. The
+/// tables hold sums rounded this way, one table for each variable.
+pub fn expect<F: Forest, L: Ledger>(
+    alloc: Global,
+    forest: &mut F,
+    thawed: &Thawed,
+    next: Ref,
+    action: u32,
+    way: Way,
+    sums: &mut Vec<Table>,
+    steps: &mut Steps<L>,
+) -> Result<Ref, OpFault>
+    requires followed { IsFollowed (F.shows forest.old) thawed.now action next }
+    requires sums { HoldEachSum way (length thawed.now.sizes.items) (F.shows forest.old) sums.old.items }
+    ensures made { (m : Process) (a : Action) (w : List ℕ → ℤ) → Follows m a w (F.shows forest.old) thawed.now action next → MakesExpected way m a w (F.shows forest.old) (F.shows forest.new) result }
+    ensures keeps { F.kept forest.new ≡ F.kept forest.old }
+    ensures sums { HoldEachSum way (length thawed.now.sizes.items) (F.shows forest.new) sums.new.items }
+{
+    let _ = forest.layout();
+    let sizes = thawed.sizes.as_slice();
+    let mut expected = next;
+    for var in 0..sizes.len() {
+        expected = sum_variable(
+            alloc,
+            forest,
+            thawed,
+            expected,
+            action,
+            var,
+            way,
+            &mut sums[var],
+            steps,
+        )?;
+    }
+    Ok(expected)
+}

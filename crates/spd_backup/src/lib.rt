@@ -1,0 +1,16 @@
+//! Backing up a value on diagrams: the bounds of one action's return.
+//!
+//! `spd_backup` has `backup`, one action's part of value iteration on decision diagrams (SPUDD, UAI 1999). The value's diagram is
+//! primed, each variable's next value is summed out by the action's weights, one variable after another, and the discounted
+//! expectation is added to the reward: once with all roundings down and once with all up. The answers of all operations are kept in
+//! `Tables`, which a caller hands from action to action, so that what two actions have in common is made once.
+#![tactic(auto)]
+
+mod backing;
+mod expecting;
+mod tables;
+mod thawed;
+
+pub use backing::{Bounds, backup, backup_with};
+pub use tables::{Tables, WayTables};
+pub use thawed::Thawed;

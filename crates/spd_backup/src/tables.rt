@@ -1,0 +1,74 @@
+//! The answers of a backup's operations, kept from action to action.
+
+ghost use Rattle.std.specs.Prelude.{◌≡◌, ℕ, ◌<◌, length, IfOk};
+ghost use Rattle.spd_nodes.specs.Shown.{Shown};
+ghost use Rattle.spd_weigh.specs.declared.way.Way.{Way};
+ghost use Rattle.spd_backup.specs.Keeping.{HoldEachSum, HoldWay, HoldAll};
+
+use spd_gather::Table;
+use spd_memo::Memo;
+use spd_nodes::Ref;
+use std::alloc::{AllocError, Global};
+
+/// The answers of one way of rounding.
+#[derive(Drop)]
+pub struct WayTables {
+    /// Those of summing out, one table for each variable.
+    pub sums: Vec<Table>,
+    /// Those of discounting.
+    pub discounts: Table,
+}
+
+/// The answers of a backup's operations. Whoever backs up several actions hands them from one to the next.
+#[derive(Drop)]
+pub struct Tables {
+    /// The value that was primed last, and its primed diagram.
+    pub next: Option<(Ref, Ref)>,
+    /// The answers of rounding down.
+    pub down: WayTables,
+    /// The answers of rounding up.
+    pub up: WayTables,
+    /// The answers of adding a reward.
+    pub adds: Memo,
+}
+
+/// A table for each variable, with at most so many places each.
+fn sum_tables(alloc: Global, sizes: &[u8], memo_size: usize) -> Result<Vec<Table>, AllocError>
+    ensures { IfOk result (λ v. (way : Way) (s : Shown) → HoldEachSum way (length sizes.now) s v.items) }
+{
+    let mut sums = Vec::with_capacity(alloc, sizes.len())?;
+    for size in sizes {
+        sums.push(Table::new(alloc, 2 * *size as usize, memo_size))?;
+    }
+    Ok(sums)
+}
+
+impl WayTables {
+    /// Tables with no answer yet.
+    fn new(alloc: Global, sizes: &[u8], memo_size: usize) -> Result<WayTables, AllocError>
+        ensures { IfOk result (λ t. (way : Way) (discount : ℕ) (s : Shown) → HoldWay way (length sizes.now) discount s t) }
+    {
+        let sums = sum_tables(alloc, sizes, memo_size)?;
+        let discounts = Table::new(alloc, 1, memo_size);
+        Ok(WayTables { sums, discounts })
+    }
+}
+
+impl Tables {
+    /// Tables with no answer yet, for variables with these numbers of values. Each table keeps at most `memo_size` answers, and takes
+    /// memory as it fills. It fails only for want of memory.
+    pub fn new(alloc: Global, sizes: &[u8], memo_size: usize) -> Result<Tables, AllocError>
+        requires { 0 < memo_size }
+        ensures { IfOk result (λ t. (discount : ℕ) (s : Shown) → HoldAll (length sizes.now) discount s t) }
+    {
+        let down = WayTables::new(alloc, sizes, memo_size)?;
+        let up = WayTables::new(alloc, sizes, memo_size)?;
+        let adds = Memo::new(alloc, memo_size)?;
+        Ok(Tables {
+            next: None,
+            down,
+            up,
+            adds,
+        })
+    }
+}
