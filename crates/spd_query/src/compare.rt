@@ -9,13 +9,12 @@ fn same_front<const N: usize>(a: &[u8], b: &[u8]) -> bool
     requires in_b { N ≤ length b.now }
     ensures { Decides result (take N a.now ≡ take N b.now) }
 {
-    let Some(front_a) = a.first_chunk::<N>() else {
-        return false;
-    };
-    let Some(front_b) = b.first_chunk::<N>() else {
-        return false;
-    };
-    *front_a == *front_b
+    // No early exit, so that all bytes are compared at a time.
+    let mut same = true;
+    for k in 0..N {
+        same &= a[k] == b[k];
+    }
+    same
 }
 
 /// Whether two texts of one length, from N bytes to 2 N, are the same: whether their first and their last N bytes are, which may overlap.
@@ -35,6 +34,14 @@ fn same_ends<const N: usize>(a: &[u8], b: &[u8]) -> bool
     same_front::<N>(last_a, last_b)
 }
 
+/// Whether two texts of any length are the same. It stays a call, so that the compiler mixes none of its reads with those of short texts.
+#[inline(never)]
+fn same_of_any_length(a: &[u8], b: &[u8]) -> bool
+    ensures { Decides result (a.now ≡ b.now) }
+{
+    a == b
+}
+
 /// Whether two texts of one length are the same. Names have few bytes: up to 16 of them are compared by two reads of each text.
 #[inline(always)]
 pub(crate) fn same(a: &[u8], b: &[u8]) -> bool
@@ -46,6 +53,6 @@ pub(crate) fn same(a: &[u8], b: &[u8]) -> bool
         2..=4 => same_ends::<2>(a, b),
         5..=8 => same_ends::<4>(a, b),
         9..=16 => same_ends::<8>(a, b),
-        _ => a == b,
+        _ => same_of_any_length(a, b),
     }
 }

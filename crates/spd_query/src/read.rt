@@ -98,6 +98,7 @@ fn gather(given: &[Option<u8>]) -> Option<State>
 
 /// The state of a line whose pairs stand in the order of the variables, with one blank between two of them: so most clients write. Any other line is
 /// read word by word.
+#[inline(never)]
 fn state_in_order(vars: &[Var], line: &[u8]) -> Option<State>
     requires { AreVars vars.now }
     ensures { IfSome result (λ state. state_of_words vars.now (words_of line.now) ≡ Ok state) }
