@@ -1,12 +1,15 @@
 -- The values that the words of a line give the variables.
-use Rattle.std.proofs.Common.{◌≡◌, ℕ, zero, suc, ◌<◌, List, [], ◌∷◌, length, map, Option, Some, None, Result, Ok, Err, replicate, refl, sym, ap, ◌∙◌, subst}
+use Rattle.std.proofs.Common.{◌≡◌, ℕ, zero, suc, ◌+◌, ◌<◌, List, [], ◌∷◌, ◌++◌, length, map, take, drop, Option, Some, None, Result, Ok, Err, replicate, refl, sym, ap, ◌∙◌, subst, arith, append_assoc, append-nil, length-append, length-take-le}
 use Rattle.std.specs.Prelude.{slice_get, slice_set, option_map, ok_or, is_none, bytes_eq, IfOk, if◌then◌else◌}
+use Rattle.std.proofs.lemmas.List.{length-map, length-replicate, get_or-replicate, get_or_at, set_at, drop_more, drop_all, map_push, take_more_set}
 use Rattle.std.proofs.lemmas.List.Quantifiers.{position-Some}
+use Rattle.std.proofs.lemmas.Option.{slice_get-get_or}
 use Rattle.spd_model.specs.States.{IsState}
 use Rattle.spd_query.specs.declared.line.Reason.{Reason}
 use Rattle.spd_query.specs.declared.line.Reason.TheVariants.{Missing, Unknown, Twice, Pair}
 use Rattle.spd_model.specs.declared.process.Var.{Var}
-use Rattle.spd_query.specs.Lines.{gathered, sides_of, numbers_of, var_number, value_number, with_pair, with_word, with_words, state_of_words}
+use Rattle.spd_query.specs.inner.Places.{BeginsWithPair}
+use Rattle.spd_query.specs.Lines.{words_of, gathered, sides_of, numbers_of, var_number, value_number, with_pair, with_word, with_words, state_of_words}
 
 -- a variable has no value
 pub gathered-none : (given : List (Option ℕ)) (i : ℕ) → slice_get given i ≡ Some None → gathered given ≡ None
@@ -36,6 +39,73 @@ module _ (vars : List Var) (words : List (List ℕ)) (first : List (Option ℕ))
   pub state-gathered : (given : List (Option ℕ)) (state : Option (List ℕ)) → with_words vars first words ≡ Ok given → state ≡ gathered given → ok_or state Missing ≡ state_of_words vars words
   state-gathered given state h is =
       ap (λ (o : Option (List ℕ)). ok_or o Missing) is ∙ ok_or-is (gathered given) ∙ sym (ap state_from (ap (λ (l : List (Option ℕ)). with_words vars l words) (sym fresh) ∙ h))
+
+-- ---- pairs in the order of the variables
+
+-- the first n variables have these values, and the others have none
+abbrev pub in_order : List Var → List ℕ → ℕ → List (Option ℕ)
+in_order vars values n = map Some (take n values) ++ drop n (replicate (length vars) None)
+
+module _ (vars : List Var) (values : List ℕ) (n v : ℕ) (within : n < length vars) (room : n < length values) where
+  abbrev before : List (Option ℕ)
+  before = map Some (take n values)
+
+  abbrev others : List (Option ℕ)
+  others = drop (n + 1) (replicate (length vars) None)
+
+  before-long : length before ≡ n
+  before-long = length-map (take n values) Some ∙ length-take-le n values (omega arith)
+
+  next-none : in_order vars values n ≡ before ++ None ∷ others
+  next-none =
+      let fresh : List (Option ℕ) = replicate (length vars) None in
+      ap (λ (l : List (Option ℕ)). before ++ l)
+      (drop_more fresh n None (omega (arith, length-replicate {A = Option ℕ} (length vars) None)) ∙ ap (λ (o : Option ℕ). o ∷ others) (get_or-replicate (length vars) n None None within))
+
+  pub order-free : slice_get (in_order vars values n) n ≡ Some None
+  order-free =
+      ap (λ (l : List (Option ℕ)). slice_get l n) next-none
+      ∙ slice_get-get_or (before ++ None ∷ others) n None (omega (arith, before-long, length-append before (None ∷ others)))
+      ∙ ap Some (get_or_at before None others None n before-long)
+
+  pub order-more : slice_set (in_order vars values n) n (Some v) ≡ in_order vars (slice_set values n v) (n + 1)
+  order-more =
+      ap (λ (l : List (Option ℕ)). slice_set l n (Some v)) next-none
+      ∙ set_at before None others (Some v) n before-long
+      ∙ sym (append_assoc before (Some v ∷ []) others)
+      ∙ ap (λ (l : List (Option ℕ)). l ++ others) (sym (map_push Some (take n values) v))
+      ∙ ap (λ (l : List ℕ). map Some l ++ others) (sym (take_more_set values n v room))
+
+  -- a pair of the next variable
+  pub order-step : (line behind : List ℕ) → BeginsWithPair vars line (n, v) behind
+      → with_words vars (in_order vars values n) (words_of line) ≡ with_words vars (in_order vars (slice_set values n v) (n + 1)) (words_of behind)
+  order-step line behind begins =
+      let given = in_order vars values n in
+      let named : numbers_of vars begins.sides ≡ Some (n, v) = begins.named in
+      let taken : with_word vars given begins.word ≡ Ok (in_order vars (slice_set values n v) (n + 1)) =
+      ap (λ (o : Option (List ℕ × List ℕ)). elim o as (λ _. Result (List (Option ℕ)) Reason) [
+        | None ↦ Err Pair
+        | Some sides ↦ elim (numbers_of vars sides) as (λ _. Result (List (Option ℕ)) Reason) [ None ↦ Err Unknown | Some pair ↦ with_pair given pair ]
+      ]) begins.parted
+      ∙ ap (λ (o : Option (ℕ × ℕ)). elim o as (λ _. Result (List (Option ℕ)) Reason) [ None ↦ Err Unknown | Some pair ↦ with_pair given pair ]) named
+      ∙ ap (λ (o : Option (Option ℕ)). elim o as (λ _. Result (List (Option ℕ)) Reason) [
+        | None ↦ Err Unknown
+        | Some old ↦ if is_none old then Ok (slice_set given n (Some v)) else Err Twice
+      ]) order-free
+      ∙ ap Ok order-more in
+      ap (with_words vars given) begins.words
+      ∙ ap (λ (r : Result (List (Option ℕ)) Reason). elim r as (λ _. Result (List (Option ℕ)) Reason) [ Err reason ↦ Err reason | Ok now ↦ with_words vars now (words_of behind) ]) taken
+
+-- pairs of all variables
+pub order-end : (vars : List Var) (values : List ℕ) (words : List (List ℕ))
+    → with_words vars (replicate (length vars) None) words ≡ Ok (in_order vars values (length vars)) → state_of_words vars words ≡ Ok (take (length vars) values)
+order-end vars values words h =
+    let n = length vars in
+    let fresh : List (Option ℕ) = replicate n None in
+    let none : drop n fresh ≡ [] = drop_all n fresh (omega (arith, length-replicate {A = Option ℕ} n None)) in
+    let all : in_order vars values n ≡ map Some (take n values) = ap (λ (l : List (Option ℕ)). map Some (take n values) ++ l) none ∙ append-nil (map Some (take n values)) in
+    ap state_from h ∙ ap state_from (ap Ok all)
+    ∙ ap (λ (o : Option (List ℕ)). elim o as (λ _. Result (List ℕ) Reason) [ None ↦ Err Missing | Some state ↦ Ok state ]) (gathered-all (take n values))
 
 -- ---- the values that are given are values of their variables
 

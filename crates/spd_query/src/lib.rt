@@ -5,6 +5,7 @@
 #![tactic(auto)]
 
 mod answering;
+mod compare;
 mod line;
 mod names;
 mod pair;

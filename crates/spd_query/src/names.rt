@@ -20,18 +20,55 @@ pub(crate) struct Hints {
     filled: bool,
 }
 
-/// The slot at which a name is looked for: the low byte of its hash by FNV-1a. A name ends at an `=`.
+/// In each of eight bytes the lowest bit.
+const LOWEST_BITS: u64 = 0x0101_0101_0101_0101;
+
+/// Of eight bytes, of which the first one is the lowest, those before the first `=`, and 0 in place of the others.
+fn before_equals(bytes: u64) -> u64 {
+    // A byte is 0 here where an `=` stands, and of the bytes that are 0 the first one is marked by its highest bit.
+    let other = bytes ^ LOWEST_BITS.wrapping_mul(u64::from(b'='));
+    let marks = other.wrapping_sub(LOWEST_BITS) & !other & LOWEST_BITS.wrapping_mul(0x80);
+    let first = marks & marks.wrapping_neg();
+    bytes & (first >> 7).wrapping_sub(1)
+}
+
+/// A text's bytes, of which the first one is the lowest: of more than eight bytes only the first eight count.
+fn low_bytes(text: &[u8]) -> u64 {
+    let mut bytes = 0u64;
+    for byte in text.iter().rev() {
+        bytes = bytes.wrapping_mul(256) | u64::from(*byte);
+    }
+    bytes
+}
+
+/// A hash with eight more bytes: their product with 2^64 over the golden ratio (Knuth, The Art of Computer Programming, 6.4).
+fn with_bytes(hash: u64, bytes: u64) -> u64 {
+    (hash ^ bytes).wrapping_mul(0x9e37_79b9_7f4a_7c15)
+}
+
+/// The slot of a hash: its high byte.
+fn slot_of(hash: u64) -> usize
+    ensures { result < 256 }
+{
+    ((hash >> 56) % 256) as usize
+}
+
+/// The slot at which a name is looked for. Its hash takes eight bytes at a time. A name ends at an `=`.
 fn first_slot(name: &[u8]) -> usize
     ensures { result < 256 }
 {
-    let mut hash = 0x811c_9dc5u32;
-    for byte in name {
-        if *byte == b'=' {
-            break;
+    let mut hash = 0u64;
+    let mut rest = name;
+    while let Some((eight, behind)) = rest.split_first_chunk::<8>() {
+        let bytes = u64::from_le_bytes(*eight);
+        let before = before_equals(bytes);
+        if before != bytes {
+            return slot_of(with_bytes(hash, before));
         }
-        hash = (hash ^ u32::from(*byte)).wrapping_mul(0x0100_0193);
+        hash = with_bytes(hash, bytes);
+        rest = behind;
     }
-    (hash % 256) as usize
+    slot_of(with_bytes(hash, before_equals(low_bytes(rest))))
 }
 
 impl Hints {

@@ -5,6 +5,7 @@ ghost use Rattle.std.specs.List.{position_or_len};
 ghost use Rattle.spd_query.specs.Lines.{is_equals, sides_of};
 ghost use Rattle.spd_query.specs.inner.Places.{AreVars, ends_word, BeginsWithValue, BeginsWithPair};
 
+use crate::compare::same;
 use crate::words::is_blank;
 use spd_model::{Name, Var};
 
@@ -19,6 +20,7 @@ fn ends_word(behind: &[u8]) -> bool
 }
 
 /// What stands behind a value, where a text begins with it and its word ends there.
+#[inline(always)]
 fn behind_value<'a>(text: &'a [u8], value: &[u8]) -> Option<&'a [u8]>
     ensures begins { IfSome result (λ behind. text.now ≡ value.now ++ behind.now) }
     ensures ends { IfSome result (λ behind. ends_word behind.now ≡ true) }
@@ -26,8 +28,8 @@ fn behind_value<'a>(text: &'a [u8], value: &[u8]) -> Option<&'a [u8]>
     if text.len() < value.len() {
         return None;
     }
-    let (_, behind) = text.split_at(value.len());
-    if ends_word(behind) && text.starts_with(value) {
+    let (front, behind) = text.split_at(value.len());
+    if ends_word(behind) && same(front, value) {
         Some(behind)
     } else {
         None
@@ -35,6 +37,7 @@ fn behind_value<'a>(text: &'a [u8], value: &[u8]) -> Option<&'a [u8]>
 }
 
 /// The number of the value that is the rest of a word, and what stands behind it, where there is one.
+#[inline(always)]
 fn value_at<'a>(values: &[Name], text: &'a [u8]) -> Option<(u8, &'a [u8])>
     requires { length values.now ≤ 64 }
     ensures { IfSome result (λ r. BeginsWithValue values.now text.now r.0 r.1.now) }
@@ -48,15 +51,25 @@ fn value_at<'a>(values: &[Name], text: &'a [u8]) -> Option<(u8, &'a [u8])>
 }
 
 /// What stands behind a name and its `=`, where a line begins with these.
+#[inline(always)]
 fn behind_name<'a>(line: &'a [u8], name: &[u8]) -> Option<&'a [u8]>
     ensures { IfSome result (λ text. line.now ≡ name.now ++ 61 ∷ text.now) }
 {
-    let (first, text) = line.strip_prefix(name)?.split_first()?;
-    if *first == b'=' { Some(text) } else { None }
+    if line.len() <= name.len() {
+        return None;
+    }
+    let (front, behind) = line.split_at(name.len());
+    let (first, text) = behind.split_first()?;
+    if *first == b'=' && same(front, name) {
+        Some(text)
+    } else {
+        None
+    }
 }
 
 /// The value that the first word of a line gives the variable of this number, and what stands behind the word, where it names that variable
 /// and one of its values. It reads the line only as far as they agree.
+#[inline(always)]
 pub(crate) fn pair_at<'a>(vars: &[Var], number: usize, line: &'a [u8]) -> Option<(u8, &'a [u8])>
     requires { AreVars vars.now }
     ensures { IfSome result (λ r. BeginsWithPair vars.now line.now (number, r.0) r.1.now) }

@@ -1,6 +1,6 @@
 //! Reading a line.
 
-ghost use Rattle.std.specs.Prelude.{◌≡◌, ◌<◌, ◌≤◌, length, map, Ok, Err, IfOk, MatchResult};
+ghost use Rattle.std.specs.Prelude.{◌≡◌, ◌<◌, ◌≤◌, length, map, Ok, Err, IfSome, IfOk, MatchResult};
 ghost use Rattle.spd_model.specs.declared.process.Var.{Var as Variable};
 ghost use Rattle.spd_model.specs.States.{sizes, IsState};
 ghost use Rattle.spd_query.specs.inner.Places.{AreVars, FitsQuery, IsAtWord};
@@ -8,8 +8,8 @@ ghost use Rattle.spd_query.specs.Lines.{words_of, with_pair, with_word, with_wor
 
 use crate::line::{Query, Reason};
 use crate::names::{Hints, numbers};
-use crate::pair::sides;
-use crate::words::{all_may_stand, first_word, split_word, without_blanks};
+use crate::pair::{pair_at, sides};
+use crate::words::{all_may_stand, first_word, split_word, without_blank, without_blanks};
 use spd_model::{Model, State, Var};
 
 /// A line has at most so many bytes.
@@ -96,12 +96,36 @@ fn gather(given: &[Option<u8>]) -> Option<State>
     Some(State::of(&values[..given.len()]))
 }
 
+/// The state of a line whose pairs stand in the order of the variables, with one blank between two of them: so most clients write. Any other line is
+/// read word by word.
+#[inline(never)]
+fn state_in_order(vars: &[Var], line: &[u8]) -> Option<State>
+    requires { AreVars vars.now }
+    ensures { IfSome result (λ state. state_of_words vars.now (words_of line.now) ≡ Ok state) }
+{
+    let mut values = [0; 100];
+    let mut rest = without_blank(line);
+    for number in 0..vars.len() {
+        let (value, behind) = pair_at(vars, number, rest)?;
+        values[number] = value;
+        rest = without_blank(behind);
+    }
+    if rest.is_empty() {
+        Some(State::of(&values[..vars.len()]))
+    } else {
+        None
+    }
+}
+
 /// The state that the words of a line name.
 fn read_state(vars: &[Var], line: &[u8]) -> Result<State, Reason>
     requires { AreVars vars.now }
     ensures read { result ≡ state_of_words vars.now (words_of line.now) }
     ensures fits { IfOk result (IsState (map (λ (x : Variable). length x.values) vars.now)) }
 {
+    if let Some(state) = state_in_order(vars, line) {
+        return Ok(state);
+    }
     let mut given = [None; 100];
     let given = &mut given[..vars.len()];
     match take_words(vars, given, line) {

@@ -47,6 +47,18 @@ pub(crate) fn without_blanks(line: &[u8]) -> &[u8]
     rest
 }
 
+/// A line without the blank at which it begins, if it does.
+pub(crate) fn without_blank(line: &[u8]) -> &[u8]
+    ensures { words_of result.now ≡ words_of line.now }
+{
+    if let [first, behind @ ..] = line {
+        if is_blank(*first) {
+            return behind;
+        }
+    }
+    line
+}
+
 /// The length of the word at which a line begins.
 fn word_len(line: &[u8]) -> usize
     ensures first { result ≡ position_or_len is_blank line.now }
