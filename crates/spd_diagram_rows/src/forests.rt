@@ -4,8 +4,8 @@ ghost use Rattle.std.specs.Prelude.{◌≡◌, ℕ, ◌<◌, ◌∷◌, []};
 ghost use Rattle.spd_nodes.specs.Levels.{levels_of, slots};
 
 use spd_nodes::{
-    Alone, Counting, Forest, Layout, Leaf, Level, Steps, StoreFault, can_test, count, is_same_function,
-    is_same_rest, is_whole, reached,
+    Alone, Counting, Forest, Layout, Leaf, Level, Steps, StoreFault, can_test, count,
+    is_same_function, is_same_rest, is_whole, reached,
 };
 use std::alloc::Global;
 use std::marker::Brand;
