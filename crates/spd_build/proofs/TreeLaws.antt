@@ -1,11 +1,10 @@
 -- The functions of trees: those of a branch by the list of its subtrees, and what the diagrams of its subtrees make of it.
-use Rattle.std.proofs.Common.{◌≡◌, ℕ, zero, suc, ◌+◌, ◌-◌, ◌<◌, ◌≤◌, Bool, true, false, cond, List, [], ◌∷◌, ◌++◌, length, map, flat_map, get_or, slice_index_or, ℤ, pos, refl, ap, sym, ◌∙◌, subst, arith, Result, Ok, Err, IfErr}
-use Rattle.std.specs.Prelude.{nat_lt, slice_index, if◌then◌else◌}
+use Rattle.std.proofs.Common.{◌≡◌, ℕ, zero, suc, ◌-◌, ◌<◌, Bool, true, false, cond, List, [], ◌∷◌, ◌++◌, length, map, flat_map, slice_index_or, ℤ, pos, refl, ap, sym, ◌∙◌, subst, arith, Result, Ok, Err, IfErr}
+use Rattle.std.specs.Prelude.{nat_lt, slice_index}
 use Rattle.std.specs.List.{AllZip}
-use Rattle.std.proofs.lemmas.List.{get_or-map, length-map}
-use Rattle.std.proofs.lemmas.List.Elements.{AllZip-get_or, length_all_zip}
+use Rattle.std.proofs.lemmas.List.{get_or-map}
 use Rattle.spd_cons_core.specs.declared.key.Entry.{Entry}
-use Rattle.spd_model.specs.declared.tree.Tree.{Tree, Leaf, Named, Branch, Branch', Row_of-Tree, end_of-Tree, more_of-Tree, items-the_row-Tree, items_hidden-the_row-Tree-0}
+use Rattle.spd_model.specs.declared.tree.Tree.{Tree, Leaf, Branch, Row_of-Tree, end_of-Tree, more_of-Tree, items-the_row-Tree, items_hidden-the_row-Tree-0}
 use Rattle.spd_model.specs.declared.tree.Tree.TheBlock.{hidden-the_row-Tree-0}
 use Rattle.spd_model.specs.Process.{Process}
 use Rattle.spd_model.specs.States.{sizes, IsState}
@@ -16,7 +15,7 @@ use Rattle.spd_nodes.specs.declared.leaf.Leaf.TheVariants.{Num, Act}
 use Rattle.spd_nodes.specs.declared.forest.StoreFault.{StoreFault}
 use Rattle.spd_nodes.specs.Levels.{AllPositive, slots}
 use Rattle.spd_nodes.specs.Trees.{Tree as TestTree, Ends}
-use Rattle.spd_nodes.specs.States.{Function, test_tree, test_trees, Agree}
+use Rattle.spd_nodes.specs.States.{Function, test_trees, Agree}
 use Rattle.spd_nodes.specs.Shown.{Shown, IsSound, StandsFor, MakesAmong, MakesOnly, Faults, meaning}
 use Rattle.spd_nodes.proofs.CallerLemmas.{IsTreeFor, among-agrees}
 use Rattle.spd_nodes.proofs.StateLaws.{positive-slots, test_tree-agree}

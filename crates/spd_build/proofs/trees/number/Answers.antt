@@ -1,4 +1,4 @@
-use Rattle.std.proofs.Common.{rules, ℤ, FitsSigned, to_z, of_z, subst}
+use Rattle.std.proofs.Common.{ℤ, FitsSigned, to_z, of_z, subst}
 use Rattle.std.proofs.lemmas.Int.{to_z-of_z}
 use Rattle.std.specs.Int.{w128}
 use Rattle.spd_nodes.specs.declared.leaf.Leaf.TheVariants.{Num}
