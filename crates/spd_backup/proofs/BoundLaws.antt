@@ -26,7 +26,7 @@ use Rattle.spd_weigh.specs.Discounting.{discounted}
 use Rattle.spd_weigh.specs.Leaves.{rounding_of, number_of, HasValues}
 use Rattle.spd_weigh.specs.Weighing.{sum_out_functions}
 use Rattle.spd_backup.specs.declared.thawed.Thawed.{Thawed}
-use Rattle.spd_backup.specs.Functions.{weights_of, reward}
+use Rattle.spd_build.specs.Functions.{weights_of, reward}
 use Rattle.spd_backup.specs.Expected.{expected, bound, backup_functions, AreExpected}
 use Rattle.spd_backup.specs.Making.{Follows, MakesFirst, MakesBound}
 use Rattle.spd_backup.proofs.BridgeLaws.{way-keeps, expected-all, has-values}

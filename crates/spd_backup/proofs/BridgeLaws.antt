@@ -24,7 +24,7 @@ use Rattle.spd_weigh.specs.declared.way.Way.{Way}
 use Rattle.spd_weigh.specs.declared.way.Way.TheVariants.{Down, Up}
 use Rattle.spd_weigh.specs.Leaves.{rounding_of, number_of, IsWeight, IsValue, HasValues}
 use Rattle.spd_weigh.specs.Weighing.{summed_out, product_at, weight_at, AreWeights}
-use Rattle.spd_backup.specs.Functions.{weight, weights_of}
+use Rattle.spd_build.specs.Functions.{weight, weights_of}
 use Rattle.spd_backup.specs.Expected.{expected}
 use Rattle.spd_backup.proofs.PartLaws.{length-weights}
 

@@ -27,7 +27,7 @@ use Rattle.spd_weigh.specs.Discounting.{discount_functions}
 use Rattle.spd_weigh.specs.Summed.{HoldsSums}
 use Rattle.spd_weigh.specs.Weighing.{summed_out, AreWeights, sum_out_functions, product_at}
 use Rattle.spd_backup.specs.declared.thawed.Thawed.{Thawed}
-use Rattle.spd_backup.specs.Functions.{weights_of}
+use Rattle.spd_build.specs.Functions.{weights_of}
 use Rattle.spd_backup.specs.Expected.{next_value, expected, bound, bound_functions, backup_functions, AreExpected}
 use Rattle.spd_backup.specs.Thawing.{weights_in, HasAction}
 use Rattle.spd_backup.specs.Making.{Follows, MakesFirst, CanSumOut}

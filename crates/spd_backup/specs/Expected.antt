@@ -16,7 +16,7 @@ use Rattle.spd_weigh.specs.Discounting.{discount_functions}
 use Rattle.spd_weigh.specs.Leaves.{rounding_of}
 use Rattle.spd_weigh.specs.Weighing.{sum_out_functions}
 use Rattle.spd_backup.specs.declared.backing.Bounds.{Bounds}
-use Rattle.spd_backup.specs.Functions.{numbers, weights_of}
+use Rattle.spd_build.specs.Functions.{numbers, weights_of}
 
 -- a value at the next state, by which each plain name is primed
 abbrev pub next_value : (List ℕ → ℤ) → Function

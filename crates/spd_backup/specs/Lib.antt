@@ -1,4 +1,3 @@
-pub mod Functions
 pub mod Expected
 pub mod Thawing
 pub mod Keeping

@@ -10,7 +10,7 @@ use Rattle.spd_model.specs.Chances.{IsValid}
 use Rattle.spd_nodes.specs.declared.leaf.Leaf.TheVariants.{Num}
 use Rattle.spd_nodes.specs.Shown.{Shown, StandsFor, meaning}
 use Rattle.spd_backup.specs.declared.thawed.Thawed.{Thawed}
-use Rattle.spd_backup.specs.Functions.{all_weights, reward}
+use Rattle.spd_build.specs.Functions.{all_weights, reward}
 
 -- among all weights, those of a variable after an action
 abbrev pub weights_in : List ℕ → List Entry → ℕ → ℕ → List Entry
