@@ -11,8 +11,6 @@ use Rattle.spd_nodes.specs.declared.forest.StoreFault.{StoreFault}
 use Rattle.spd_nodes.specs.declared.forest.StoreFault.TheVariants as F
 use Rattle.spd_nodes.specs.Shown.{Shown, IsSound, Grows, FaultsAt, MakesAmong, MakesDiagram, meaning}
 use Rattle.spd_nodes.specs.States.{Function, Agree, test_trees}
-use Rattle.spd_nodes.proofs.CallerLemmas.{diagram-agrees, grows-none}
-use Rattle.spd_nodes.proofs.ShownLaws.{faults-within, makes-none, makes-within, stands-grows}
 use Rattle.spd_restrict.specs.Primed.{primed}
 use Rattle.spd_weigh.specs.declared.way.Way.TheVariants.{Down, Up}
 use Rattle.spd_weigh.specs.Leaves.{number_of, IsValue, HasValues}
@@ -20,9 +18,9 @@ use Rattle.spd_backup.specs.declared.thawed.Thawed.{Thawed}
 use Rattle.spd_backup.specs.Expected.{next_value, bound, backup_functions, BacksUp}
 use Rattle.spd_backup.specs.Thawing.{HasAction, HasNumbers, IsThawed}
 use Rattle.spd_backup.specs.Making.{Follows, IsFollowed, MakesBound}
-use Rattle.spd_backup.proofs.MakingLaws.{within-in, among-both}
 use Rattle.spd_backup.proofs.PartLaws.{action-grows}
 use Rattle.spd_backup.proofs.StepLaws.{expected-grows}
+use Rattle.spd_nodes.proofs.CallerLemmas.{among-both, diagram-agrees, faults-within, grows-none, makes-none, makes-within, stands-grows, within-in}
 
 pub follows-grows : {m : Process} {a : Action} {w : List ℕ → ℤ} {s t : Shown} {x : Thawed} {k : ℕ} {next : Entry} → Grows s t → Follows m a w s x k next → Follows m a w t x k next
 follows-grows {m = m} {a = a} {s = s} {t = t} {x = x} {k = k} g h = record { has = action-grows m a s t x k g h.has; bounded = h.bounded; stands = stands-grows g h.stands }

@@ -17,8 +17,6 @@ use Rattle.spd_nodes.specs.declared.leaf.Leaf.TheVariants.{Num}
 use Rattle.spd_nodes.specs.declared.forest.StoreFault.{StoreFault}
 use Rattle.spd_nodes.specs.Shown.{Shown, IsSound, StandsFor, MakesAmong, MakesDiagram, meaning}
 use Rattle.spd_nodes.specs.States.{Function, Agree}
-use Rattle.spd_nodes.proofs.CallerLemmas.{among-then, diagram-agrees, grows-then}
-use Rattle.spd_nodes.proofs.ShownLaws.{stands-grows}
 use Rattle.spd_apply.specs.Operations.{in_i128, num_fits, num_of}
 use Rattle.spd_apply.specs.Outcome.{FitEverywhere, at_each}
 use Rattle.spd_weigh.specs.declared.way.Way.{Way}
@@ -30,9 +28,9 @@ use Rattle.spd_build.specs.Functions.{weights_of, reward}
 use Rattle.spd_backup.specs.Expected.{expected, bound, backup_functions, AreExpected}
 use Rattle.spd_backup.specs.Making.{Follows, MakesFirst, MakesBound}
 use Rattle.spd_backup.proofs.BridgeLaws.{way-keeps, expected-all, has-values}
-use Rattle.spd_backup.proofs.MakingLaws.{IsIn, in-back, within-in}
 use Rattle.spd_backup.proofs.PartLaws.{reward-stands, is-offered}
 use Rattle.spd_backup.proofs.StepLaws.{bound-in, expected-grows}
+use Rattle.spd_nodes.proofs.CallerLemmas.{IsIn, among-then, diagram-agrees, grows-then, in-back, stands-grows, within-in}
 
 within-i128 : (z : ℤ) → IsWithin (pos value_limit) z → in_i128 z ≡ true
 within-i128 (pos n) h = (Decides-ltb n (2 ^ 127)).1 (omega (arith, ints, h.high))

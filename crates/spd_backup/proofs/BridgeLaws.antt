@@ -27,18 +27,11 @@ use Rattle.spd_weigh.specs.Weighing.{summed_out, product_at, weight_at, AreWeigh
 use Rattle.spd_build.specs.Functions.{weight, weights_of}
 use Rattle.spd_backup.specs.Expected.{expected}
 use Rattle.spd_backup.proofs.PartLaws.{length-weights}
+use Rattle.spd_weigh.proofs.CallerLemmas.{set-state}
 
 pub way-keeps : (way : Way) → KeepsWithin (rounding_of way)
 way-keeps Down = floor_keeps
 way-keeps Up = ceil_keeps
-
--- a state with another value of a variable is a state
-set-state : (sizes t : List ℕ) (var v : ℕ) → IsState sizes t → v < get_or sizes var 0 → IsState sizes (set t var v)
-set-state [] [] var v h b = tt
-set-state [] (x ∷ t) var v h b = absurd h
-set-state (d ∷ ds) [] var v h b = absurd h
-set-state (d ∷ ds) (x ∷ t) zero v h b = (b, h.1)
-set-state (d ∷ ds) (x ∷ t) (suc var) v h b = (h.0, set-state ds t var v h.1 b)
 
 -- functions that agree are summed out alike
 pub summed-agrees : (sizes : List ℕ) (way : Way) (i : ℕ) (fs gs : List Function) (f g : Function) → length fs ≡ length gs → length gs ≡ get_or sizes i 0

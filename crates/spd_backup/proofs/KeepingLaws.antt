@@ -7,8 +7,7 @@ use Rattle.spd_cons_core.specs.declared.key.Entry.{Entry}
 use Rattle.spd_memo.specs.Kept.{KeptAnswers}
 use Rattle.spd_nodes.specs.Shown.{Shown, Grows, StandsFor, MakesDiagram, meaning}
 use Rattle.spd_nodes.specs.States.{Function, function_of}
-use Rattle.spd_nodes.proofs.ShownLaws.{stands-grows}
-use Rattle.spd_apply.proofs.MemoLaws.{answers-grow}
+use Rattle.spd_apply.proofs.CallerLemmas.{answers-grow}
 use Rattle.spd_gather.specs.Rows.{Row}
 use Rattle.spd_restrict.specs.Primed.{primed}
 use Rattle.spd_weigh.specs.declared.way.Way.{Way}
@@ -17,6 +16,7 @@ use Rattle.spd_weigh.proofs.CallerLemmas.{discounts-grow, sums-grow, sums-none}
 use Rattle.spd_backup.specs.declared.tables.Tables.{Tables}
 use Rattle.spd_backup.specs.declared.tables.WayTables.{WayTables}
 use Rattle.spd_backup.specs.Keeping.{HoldEachSum, HoldWay, HoldAdds, HoldAll, IsPrimed}
+use Rattle.spd_nodes.proofs.CallerLemmas.{stands-grows}
 
 meaning-grows : (s t : Shown) (r : Entry) → Grows s t → s.knows r ≡ true → meaning t r ≡ meaning s r
 meaning-grows s t r g k = λ i. function_of (g.sizes i) (g.trees r k i)

@@ -3,7 +3,6 @@ mod BridgeLaws
 mod BoundLaws
 mod CallerLemmas
 mod KeepingLaws
-mod MakingLaws
 mod PartLaws
 mod Rows
 mod StepLaws

@@ -15,10 +15,10 @@ use Rattle.spd_model.specs.States.{sizes}
 use Rattle.spd_model.proofs.CallerLemmas.Lists.{length-numbers_below}
 use Rattle.spd_model.proofs.CallerLemmas.StateOrder.{length-sizes}
 use Rattle.spd_nodes.specs.Shown.{Shown, Grows, StandsFor}
-use Rattle.spd_nodes.proofs.ShownLaws.{stands-grows}
 use Rattle.spd_backup.specs.declared.thawed.Thawed.{Thawed}
 use Rattle.spd_build.specs.Functions.{weight, weights_of, all_weights, reward}
 use Rattle.spd_backup.specs.Thawing.{weights_in, IsThawedOf, HasAction}
+use Rattle.spd_nodes.proofs.CallerLemmas.{stands-grows}
 
 -- ---- a part of a list
 

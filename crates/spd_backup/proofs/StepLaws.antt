@@ -14,8 +14,6 @@ use Rattle.spd_nodes.specs.declared.forest.StoreFault.{StoreFault}
 use Rattle.spd_nodes.specs.declared.leaf.Leaf.TheVariants.{Num}
 use Rattle.spd_nodes.specs.Shown.{Shown, IsSound, IsWhole, Grows, StandsFor, MakesAmong, MakesDiagram, meaning}
 use Rattle.spd_nodes.specs.States.{Function, Agree}
-use Rattle.spd_nodes.proofs.CallerLemmas.{among-agrees, among-fails, among-then, diagram-agrees, makes_among-known}
-use Rattle.spd_nodes.proofs.ShownLaws.{stands-grows}
 use Rattle.spd_gather.specs.Lists.{AreKnown}
 use Rattle.spd_gather.specs.Rows.{Row}
 use Rattle.spd_restrict.specs.Chosen.{function_at}
@@ -32,8 +30,8 @@ use Rattle.spd_backup.specs.Expected.{next_value, expected, bound, bound_functio
 use Rattle.spd_backup.specs.Thawing.{weights_in, HasAction}
 use Rattle.spd_backup.specs.Making.{Follows, MakesFirst, CanSumOut}
 use Rattle.spd_backup.proofs.BridgeLaws.{summed-agrees, summed-expected, zip-agrees, weight-at, are-weights, has-values}
-use Rattle.spd_backup.proofs.MakingLaws.{IsIn, in-front, in-back, within-in}
 use Rattle.spd_backup.proofs.PartLaws.{laid-suc, zip-length, length-weights, weights-room, weights-stand, is-offered, action-grows}
+use Rattle.spd_nodes.proofs.CallerLemmas.{IsIn, among-agrees, among-fails, among-then, diagram-agrees, in-back, in-front, makes_among-known, stand-known, stand-whole, stands-grows, within-in}
 
 -- ---- the functions of a backup
 
@@ -96,16 +94,6 @@ expected-then (Err e) k h = tt
 
 -- ---- the next step
 
-zip-known : (s : Shown) (ws : List Entry) (fs : List Function) → AllZip (StandsFor s) ws fs → AreKnown s ws
-zip-known s [] fs h = All-nil (λ k. s.knows k ≡ true)
-zip-known s (k ∷ ws) [] h = absurd h
-zip-known s (k ∷ ws) (f ∷ fs) h = All-cons (λ k. s.knows k ≡ true) k ws h.0.knows (zip-known s ws fs h.1)
-
-zip-whole : (s : Shown) (ws : List Entry) (fs : List Function) → AllZip (StandsFor s) ws fs → All (λ r. IsWhole s r) ws
-zip-whole s [] fs h = All-nil (λ r. IsWhole s r)
-zip-whole s (k ∷ ws) [] h = absurd h
-zip-whole s (k ∷ ws) (f ∷ fs) h = All-cons (λ r. IsWhole s r) k ws h.0.whole (zip-whole s ws fs h.1)
-
 module _ (way : Way) (m : Process) (a : Action) (w : List ℕ → ℤ) (s : Shown) (x : Thawed) (k : ℕ) (next : Entry) (f : Follows m a w s x k next) (t : Shown) (g : Grows s t)
     (e : Entry) (var : ℕ) (b : var < length x.sizes.items) (stands : StandsFor t e (expected way m a w var)) where
   has : HasAction m a t x k
@@ -133,8 +121,8 @@ module _ (way : Way) (m : Process) (a : Action) (w : List ℕ → ℤ) (s : Show
     room = weights-room m a t x k has;
     known = stands.knows;
     whole = stands.whole;
-    weights_known = zip-known t ws (weights_of m a var) zipped;
-    weights_whole = zip-whole t ws (weights_of m a var) zipped;
+    weights_known = stand-known t ws (weights_of m a var) zipped;
+    weights_whole = stand-whole t ws (weights_of m a var) zipped;
     var_there = rw layout near;
     count = zip-length (StandsFor t) ws (weights_of m a var) zipped ∙ length-weights m a var ∙ ap (λ (z : List ℕ). get_or z var 0) (sym layout);
     weights = subst (λ (z : List ℕ). AreWeights z var (map (meaning t) ws)) (sym layout)

@@ -11,7 +11,7 @@ use Rattle.spd_model.specs.States.{sizes}
 use Rattle.spd_model.specs.Lawful.{Fits, IsLawful}
 use Rattle.spd_model.specs.Trees.{Reading, Part, choice, parts, following, nesting, read_tree, read_diagrams}
 use Rattle.spd_model.proofs.CallerLemmas.Lists.{All-map_back, All-flat_map_back, le_fold_max}
-use Rattle.spd_model.proofs.CallerLemmas.Trees.{read_tree-Branch, names_below, names_earlier, read_in-Named, length-read_diagrams}
+use Rattle.spd_model.proofs.CallerLemmas.Trees.{read_tree-Branch, names_below, names_earlier, read_in-Named, length-read_diagrams, read_diagrams-append}
 use Rattle.spd_nodes.specs.declared.leaf.Leaf.TheVariants.{Num}
 use Rattle.spd_nodes.specs.States.{Function}
 use Rattle.spd_nodes.specs.Shown.{Shown, StandsFor}
@@ -19,10 +19,6 @@ use Rattle.spd_build.specs.Functions.{tree_function}
 use Rattle.spd_build.specs.Fitting.{FitsWith, StandForTrees}
 
 -- ---- decision diagrams in order
-
-read-append : {X : Type 0} (way : Reading X) (before : List X) (xs ys : List Tree) → read_diagrams way before (xs ++ ys) ≡ read_diagrams way (read_diagrams way before xs) ys
-read-append way before [] ys = refl
-read-append way before (x ∷ xs) ys = read-append way (before ++ read_tree way before x ∷ []) xs ys
 
 -- what was read stays in front
 read-front : {X : Type 0} (way : Reading X) (before : List X) (ys : List Tree) → (zs : List X) × (read_diagrams way before ys ≡ before ++ zs)
@@ -42,7 +38,7 @@ dd-fits m law k other near =
     let count : length before ≡ k = length-read_diagrams parts [] front ∙ omega (arith, length-take-le k m.dds (omega arith)) in
     let rest = read-front parts (before ++ own ∷ []) (drop (suc k) m.dds) in
     let all : read_diagrams parts [] m.dds ≡ before ++ own ∷ rest.0 =
-    ap (read_diagrams parts []) (split_at m.dds k other near) ∙ read-append parts [] front (dd ∷ drop (suc k) m.dds) ∙ rest.1 ∙ append_assoc before (own ∷ []) rest.0 in
+    ap (read_diagrams parts []) (split_at m.dds k other near) ∙ read_diagrams-append parts [] front (dd ∷ drop (suc k) m.dds) ∙ rest.1 ∙ append_assoc before (own ∷ []) rest.0 in
     let there : take k (read_diagrams parts [] m.dds) ≡ before = ap (take k) all ∙ take_at before (own ∷ rest.0) k count in
     let fits : All (Fits m) (get_or (before ++ own ∷ rest.0) k []) =
     subst (λ (l : List (List Part)). All (Fits m) (get_or l k [])) all (law.dds_fit k [] (omega (arith, length-read_diagrams parts [] m.dds))) in

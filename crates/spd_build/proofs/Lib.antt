@@ -1,3 +1,2 @@
-pub mod Making
 pub mod TreeLaws
 pub mod FittingLaws

@@ -17,12 +17,10 @@ use Rattle.spd_nodes.specs.Levels.{AllPositive, slots}
 use Rattle.spd_nodes.specs.Trees.{Tree as TestTree, Ends}
 use Rattle.spd_nodes.specs.States.{Function, test_trees, Agree}
 use Rattle.spd_nodes.specs.Shown.{Shown, IsSound, StandsFor, MakesAmong, MakesOnly, Faults, meaning}
-use Rattle.spd_nodes.proofs.CallerLemmas.{IsTreeFor, among-agrees}
-use Rattle.spd_nodes.proofs.StateLaws.{positive-slots, test_tree-agree}
 use Rattle.spd_restrict.specs.Chosen.{variable_value, function_at, chosen, chosen_from, chosen_below, branch_functions}
-use Rattle.spd_build.specs.Made.{HasMade, MakesAll}
-use Rattle.spd_build.proofs.Making.{Among, among-front, among-back, among-after, among-failed, has-wider, fault-wider}
+use Rattle.spd_nodes.specs.Made.{HasMade, MakesAll}
 use Rattle.spd_build.specs.Functions.{constant, tree_function, row_functions, tree_functions, kids_functions}
+use Rattle.spd_nodes.proofs.CallerLemmas.{Among, IsTreeFor, among-after, among-agrees, among-back, among-failed, among-front, fault-wider, has-wider, positive-slots, test_tree-agree}
 
 -- ---- by the list of a branch's subtrees
 

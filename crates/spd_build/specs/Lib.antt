@@ -1,3 +1,3 @@
 pub mod Functions
 pub mod Fitting
-pub mod Made
+pub mod Built

@@ -5,7 +5,9 @@
 //! counted, are one definition, `building_functions`.
 #![tactic(auto)]
 
+mod built;
 mod lists;
 mod trees;
 
+pub use built::{BuildFault, Built};
 pub use trees::{dds_of, tree_of};

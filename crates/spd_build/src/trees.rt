@@ -5,7 +5,7 @@ ghost use Rattle.spd_model.specs.States.{sizes};
 ghost use Rattle.spd_nodes.specs.Shown.{Shown, MakesAmong, MakesDiagram};
 ghost use Rattle.spd_build.specs.Functions.{constant, tree_function, tree_functions};
 ghost use Rattle.spd_build.specs.Fitting.{FitsWith, StandForTrees};
-ghost use Rattle.spd_build.specs.Made.{MakesAll};
+ghost use Rattle.spd_nodes.specs.Made.{MakesAll};
 
 use crate::lists::{push, with_room};
 use spd_apply::OpFault;

@@ -10,7 +10,7 @@ use Rattle.std.proofs.lemmas.List.Sums.{fails_before_first, passes_at_first, pre
 use Rattle.spd_model.specs.Reduced.{Diagram, Subtrees, none, also, is_equal, are_equal, node_number, with_node}
 use Rattle.spd_nodes.specs.Trees.{leaf_eq}
 use Rattle.spd_nodes.specs.declared.leaf.Leaf.{Leaf}
-use Rattle.spd_nodes.proofs.TreeLaws.{leaf_eq-refl, leaf_eq-true}
+use Rattle.spd_nodes.proofs.CallerLemmas.{leaf_eq-refl, leaf_eq-true}
 
 abbrev pub D : Type 0
 D = Diagram Leaf

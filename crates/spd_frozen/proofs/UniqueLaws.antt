@@ -13,7 +13,7 @@ use Rattle.spd_model.specs.Reduced.{subtrees_of, Node, is_equal, node_number, no
 use Rattle.spd_nodes.specs.Trees.{leaf_eq}
 use Rattle.spd_nodes.specs.declared.leaf.Leaf.{Leaf}
 use Rattle.spd_nodes.specs.declared.leaf.Leaf.TheVariants as L
-use Rattle.spd_nodes.proofs.TreeLaws.{leaf_eq-refl, leaf_eq-true}
+use Rattle.spd_nodes.proofs.CallerLemmas.{leaf_eq-refl, leaf_eq-true}
 use Rattle.std.specs.Prelude.{bytes_eq}
 use Rattle.std.proofs.lemmas.Slice.Eq.{bytes_eq-Decides}
 use Rattle.spd_frozen.specs.declared.node.Node.{Node as StoredNode}

@@ -1,6 +1,7 @@
--- What callers' proofs cite of the definitions: lists and sums, the order of the states, tables, trees, what is first, validity,
+-- What callers' proofs cite of the definitions: lists and sums, the exit of a `?`, the order of the states, tables, trees, what is first, validity,
 -- chances, bounded values, and the residual.
 pub mod Lists
+pub mod Results
 pub mod Sums
 pub mod Finds
 pub mod Greatest

@@ -2,6 +2,7 @@ pub mod CallerLemmas
 pub mod KeyLaws
 pub mod LayoutLaws
 pub mod MadeLaws
+pub mod MakingLaws
 pub mod RankLaws
 pub mod RefLaws
 pub mod ShownLaws

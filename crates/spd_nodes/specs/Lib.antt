@@ -3,6 +3,7 @@ pub mod Levels
 pub mod Limits
 pub mod Refs
 pub mod Shown
+pub mod Made
 pub mod Store
 pub mod States
 pub mod Trees

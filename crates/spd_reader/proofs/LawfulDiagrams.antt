@@ -8,7 +8,7 @@ use Rattle.spd_model.specs.declared.tree.Tree.{Tree}
 use Rattle.spd_model.specs.Lawful.{Fits, FitsTable, FitsReward, IsTable, IsReward, AreRewards}
 use Rattle.spd_model.specs.Process.{Process}
 use Rattle.spd_model.specs.Trees.{Reading, missing, parts, nesting, parts_of, read_tree, read_diagrams}
-use Rattle.spd_model.proofs.CallerLemmas.Trees.{length-read_diagrams}
+use Rattle.spd_model.proofs.CallerLemmas.Trees.{length-read_diagrams, read_diagrams-append}
 use Rattle.spd_syntax.specs.declared.file.Shape.{Shape}
 use Rattle.spd_syntax.specs.declared.file.Quantity.TheVariants as quantities
 use Rattle.spd_syntax.specs.Grammar.{IsTree}
@@ -23,10 +23,6 @@ use Rattle.spd_reader.proofs.LawfulTokens.{part-length}
 use Rattle.spd_reader.proofs.LawfulTrees.{Reads, Serves, tree-good}
 
 -- ---- diagrams that are declared one after another
-
-read_diagrams-append : {X : Type 0} (way : Reading X) (before : List X) (xs ys : List Tree) → read_diagrams way before (xs ++ ys) ≡ read_diagrams way (read_diagrams way before xs) ys
-read_diagrams-append way before [] ys = refl
-read_diagrams-append way before (x ∷ xs) ys = read_diagrams-append way (before ++ read_tree way before x ∷ []) xs ys
 
 -- one more
 pub read_diagrams-push : {X : Type 0} (way : Reading X) (dds : List Tree) (dd : Tree) → read_diagrams way [] (dds ++ dd ∷ []) ≡ read_diagrams way [] dds ++ read_tree way (read_diagrams way [] dds) dd ∷ []

@@ -166,7 +166,3 @@ same_exit file ps ts (Err e) u is fails = subst (Fails file ps ts) (sym is) fail
 pub err_exit : {X E : Type 0} (P : E → Type 0) (r : Result X E) (e : E) → IsErrAnd r (λ (x : E). x ≡ e) → P e → IfErr r P
 err_exit P (Ok x) e is p = tt
 err_exit P (Err x) e is p = subst P (sym is) p
-
-pub err_is : {X E : Type 0} (r : Result X E) (e : E) → IsErrAnd r (λ (x : E). x ≡ e) → r ≡ Err e
-err_is {E = E} (Ok x) e is = absurd is
-err_is {E = E} (Err x) e is = ap (λ (y : E). Err y) is

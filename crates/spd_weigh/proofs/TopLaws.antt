@@ -115,7 +115,7 @@ weighed-sum way var ws f s t =
     ∙ sum_below-cong (length ws) _ (λ v. product_at var ws f v s t) (λ v b. ap (λ j. number_of (function_at ws v s (set t var j)) *ℤ number_of (f s (set t var j))) (zero-plus v)))
 
 -- a state with another value of a variable is a state
-set-state : (sizes t : List ℕ) (var v : ℕ) → IsState sizes t → v < get_or sizes var 0 → IsState sizes (set t var v)
+pub set-state : (sizes t : List ℕ) (var v : ℕ) → IsState sizes t → v < get_or sizes var 0 → IsState sizes (set t var v)
 set-state [] [] var v h b = tt
 set-state [] (x ∷ t) var v h b = absurd h
 set-state (d ∷ ds) [] var v h b = absurd h

@@ -114,3 +114,10 @@ named_after way before (dd ∷ dds) h (suc d) near other =
 pub read_in-Named : {X : Type 0} (way : Reading X) (m : Process) → NameEarlier 0 m.dds → (d : ℕ) → d < length m.dds → (other : Tree)
     → read_in way m (Named d) ≡ read_in way m (get_or m.dds d other)
 read_in-Named way m h d near other = ap (λ (i : ℕ). slice_index_or (read_diagrams way [] m.dds) i way.absent) (omega arith) ∙ named_after way [] m.dds h d near other
+
+-- ---- decision diagrams in order
+
+-- those of a list in two parts: the second part comes to something after the first
+pub read_diagrams-append : {X : Type 0} (way : Reading X) (before : List X) (xs ys : List Tree) → read_diagrams way before (xs ++ ys) ≡ read_diagrams way (read_diagrams way before xs) ys
+read_diagrams-append way before [] ys = refl
+read_diagrams-append way before (x ∷ xs) ys = read_diagrams-append way (before ++ read_tree way before x ∷ []) xs ys

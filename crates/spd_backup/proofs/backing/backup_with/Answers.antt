@@ -1,12 +1,12 @@
 use Rattle.std.proofs.Common.{length, ◌∙◌, sym, subst, Ok}
-use Rattle.spd_nodes.proofs.CallerLemmas.{grows-then}
-use Rattle.spd_apply.proofs.MemoLaws.{answers-grow}
+use Rattle.spd_apply.proofs.CallerLemmas.{answers-grow}
 use Rattle.spd_weigh.specs.declared.way.Way.TheVariants.{Down, Up}
 use Rattle.spd_backup.specs.Expected.{BacksUp}
 use Rattle.spd_backup.proofs.BackLaws.{back-fails, both-made, follows-grows, followed-grows, high-fails, is-followed, low-fails, next-follows, next-made}
-use Rattle.spd_backup.proofs.MakingLaws.{exit-is}
+use Rattle.spd_model.proofs.CallerLemmas.Results.{err_is}
 use Rattle.spd_backup.proofs.KeepingLaws.{last-grows, way-grows}
 use Rattle.spd_backup.proofs.backing.backup_with.Goals as goal
+use Rattle.spd_nodes.proofs.CallerLemmas.{grows-then}
 
 pub primed_of-requires : goal.primed_of-requires
 primed_of-requires g c = record { known = c.requires.known; whole = c.requires.whole; plain = c.requires.plain; last = c.requires.tables.next }
@@ -15,7 +15,7 @@ primed_of-requires g c = record { known = c.requires.known; whole = c.requires.w
 
 pub returns-in_err-next-clause-made : goal.returns-in_err-next-clause-made
 returns-in_err-next-clause-made g c = λ m a v has is.
-    subst (BacksUp m a v (g.F.Forest.shows c.args.forest.now) (g.F.Forest.shows c.primed_of.new.forest)) (sym (exit-is c.from_residual.result c.in_err-next.field-0.0 c.from_residual.ensures.1))
+    subst (BacksUp m a v (g.F.Forest.shows c.args.forest.now) (g.F.Forest.shows c.primed_of.new.forest)) (sym (err_is c.from_residual.result c.in_err-next.field-0.0 c.from_residual.ensures.1))
     (back-fails c.in_err-next.field-0.0 (next-made m a v (g.F.Forest.shows c.args.forest.now) c.args.thawed.now c.args.action c.args.w has is c.layout.ensures.sound (g.F.Forest.shows c.primed_of.new.forest) _ c.in_err-next.ensures.made))
 
 pub returns-in_err-next-clause-keeps : goal.returns-in_err-next-clause-keeps
@@ -52,7 +52,7 @@ returns-in_err-lo-clause-made g c = λ m a v has is.
     let t = g.F.Forest.shows c.primed_of.new.forest in
     let next = next-made m a v s c.args.thawed.now c.args.action c.args.w has is c.layout.ensures.sound t (Ok c.in_ok-next.next) c.in_ok-next.ensures.made in
     let follows = next-follows m a v s c.args.thawed.now c.args.action c.args.w has is c.requires.values t c.in_ok-next.next next in
-    subst (BacksUp m a v s (g.F.Forest.shows c.bound_of.new.forest)) (sym (exit-is c.from_residual-in_err-lo.result c.in_err-lo.field-0.0 c.from_residual-in_err-lo.ensures.1))
+    subst (BacksUp m a v s (g.F.Forest.shows c.bound_of.new.forest)) (sym (err_is c.from_residual-in_err-lo.result c.in_err-lo.field-0.0 c.from_residual-in_err-lo.ensures.1))
     (low-fails m a v s c.args.thawed.now c.args.action c.args.w has is t c.in_ok-next.next next (g.F.Forest.shows c.bound_of.new.forest) c.in_err-lo.field-0.0 (c.in_err-lo.ensures.made m a v follows))
 
 pub returns-in_err-lo-clause-keeps : goal.returns-in_err-lo-clause-keeps
@@ -94,7 +94,7 @@ returns-in_err-hi-clause-made g c = λ m a v has is.
     let next = next-made m a v s c.args.thawed.now c.args.action c.args.w has is c.layout.ensures.sound t (Ok c.in_ok-next.next) c.in_ok-next.ensures.made in
     let follows = next-follows m a v s c.args.thawed.now c.args.action c.args.w has is c.requires.values t c.in_ok-next.next next in
     let low = c.in_ok-lo.ensures.made m a v follows in
-    subst (BacksUp m a v s (g.F.Forest.shows c.bound_of-2.new.forest)) (sym (exit-is c.from_residual-in_err-hi.result c.in_err-hi.field-0.0 c.from_residual-in_err-hi.ensures.1))
+    subst (BacksUp m a v s (g.F.Forest.shows c.bound_of-2.new.forest)) (sym (err_is c.from_residual-in_err-hi.result c.in_err-hi.field-0.0 c.from_residual-in_err-hi.ensures.1))
     (high-fails m a v s c.args.thawed.now c.args.action c.args.w has is t c.in_ok-next.next next (g.F.Forest.shows c.bound_of.new.forest) c.in_ok-lo.lo low (g.F.Forest.shows c.bound_of-2.new.forest) c.in_err-hi.field-0.0 (c.in_err-hi.ensures.made m a v (follows-grows low.among.grows follows)))
 
 pub returns-in_err-hi-clause-keeps : goal.returns-in_err-hi-clause-keeps

@@ -1,13 +1,13 @@
 use Rattle.std.proofs.Common.{◌<◌, length, rules, ◌∙◌, sym, subst}
 use Rattle.spd_backup.specs.Making.{MakesBound}
-use Rattle.spd_nodes.proofs.CallerLemmas.{among-fails, grows-then}
-use Rattle.spd_apply.proofs.MemoLaws.{answers-grow}
+use Rattle.spd_apply.proofs.CallerLemmas.{answers-grow}
 use Rattle.spd_weigh.proofs.CallerLemmas.{discounts-grow}
 use Rattle.spd_backup.proofs.BoundLaws.{small-discount, expected-values, later-made, reward-here, bound-fits, bound-made}
 use Rattle.spd_backup.proofs.KeepingLaws.{each-grow}
-use Rattle.spd_backup.proofs.MakingLaws.{exit-is}
+use Rattle.spd_model.proofs.CallerLemmas.Results.{err_is}
 use Rattle.spd_backup.proofs.PartLaws.{reward-room}
 use Rattle.spd_backup.proofs.backing.bound_of.Goals as goal
+use Rattle.spd_nodes.proofs.CallerLemmas.{among-fails, grows-then}
 
 pub expect-requires : goal.expect-requires
 expect-requires g c = record { followed = c.requires.followed; sums = c.requires.tables.sums }
@@ -16,7 +16,7 @@ expect-requires g c = record { followed = c.requires.followed; sums = c.requires
 
 pub returns-in_err-expected-clause-made : goal.returns-in_err-expected-clause-made
 returns-in_err-expected-clause-made g c = λ m a w f.
-    subst (MakesBound c.args.way m a w (g.F.Forest.shows c.args.forest.now) (g.F.Forest.shows c.expect.new.forest)) (sym (exit-is c.from_residual.result c.in_err-expected.field-0.0 c.from_residual.ensures.1))
+    subst (MakesBound c.args.way m a w (g.F.Forest.shows c.args.forest.now) (g.F.Forest.shows c.expect.new.forest)) (sym (err_is c.from_residual.result c.in_err-expected.field-0.0 c.from_residual.ensures.1))
     (record { among = among-fails c.in_err-expected.field-0.0 (c.in_err-expected.ensures.made m a w f).among; known = tt })
 
 pub returns-in_err-expected-clause-keeps : goal.returns-in_err-expected-clause-keeps
@@ -51,7 +51,7 @@ discount_with-requires g c =
 
 pub returns-in_err-later-clause-made : goal.returns-in_err-later-clause-made
 returns-in_err-later-clause-made g c = λ m a w f.
-    subst (MakesBound c.args.way m a w (g.F.Forest.shows c.args.forest.now) (g.F.Forest.shows c.discount_with.new.forest)) (sym (exit-is c.from_residual-in_err-later.result c.in_err-later.field-0.0 c.from_residual-in_err-later.ensures.1))
+    subst (MakesBound c.args.way m a w (g.F.Forest.shows c.args.forest.now) (g.F.Forest.shows c.discount_with.new.forest)) (sym (err_is c.from_residual-in_err-later.result c.in_err-later.field-0.0 c.from_residual-in_err-later.ensures.1))
     (record {
       among = among-fails c.in_err-later.field-0.0 (later-made c.args.way m a w (g.F.Forest.shows c.args.forest.now) c.layout.ensures.sound c.args.thawed.now c.args.action c.args.next f (g.F.Forest.shows c.expect.new.forest) c.in_ok-expected.expected (c.in_ok-expected.ensures.made m a w f)
           (g.F.Forest.shows c.discount_with.new.forest) _ c.in_err-later.ensures.made);

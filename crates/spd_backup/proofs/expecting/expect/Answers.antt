@@ -3,7 +3,7 @@ use Rattle.spd_model.proofs.CallerLemmas.StateOrder.{length-sizes}
 use Rattle.spd_weigh.specs.Summed.{HoldsSums}
 use Rattle.spd_backup.specs.Making.{MakesFirst, MakesExpected}
 use Rattle.spd_backup.proofs.KeepingLaws.{each-set}
-use Rattle.spd_backup.proofs.MakingLaws.{exit-is}
+use Rattle.spd_model.proofs.CallerLemmas.Results.{err_is}
 use Rattle.spd_backup.proofs.StepLaws.{can-sum-out, sum-then, nothing-summed, first-fails}
 use Rattle.spd_backup.proofs.expecting.expect.Goals as goal
 
@@ -47,7 +47,7 @@ returns-in_err-expected-clause-made g c =
     let n : length c.as_slice-sizes.result.now ≡ length c.args.thawed.now.sizes.items = ap length c.as_slice-sizes.ensures.value in
     let b : c.loop-var.var < length c.args.thawed.now.sizes.items = subst (λ (k : ℕ). c.loop-var.var < k) n c.loop-var-test.true in
     λ m a w f.
-    subst (MakesExpected c.args.way m a w (g.F.Forest.shows c.args.forest.now) (g.F.Forest.shows c.sum_variable.new.forest)) (sym (exit-is c.from_residual.result c.in_err-expected.field-0.0 c.from_residual.ensures.1))
+    subst (MakesExpected c.args.way m a w (g.F.Forest.shows c.args.forest.now) (g.F.Forest.shows c.sum_variable.new.forest)) (sym (err_is c.from_residual.result c.in_err-expected.field-0.0 c.from_residual.ensures.1))
     (first-fails c.in_err-expected.field-0.0 (length m.vars) (sum-then c.args.way m a w (g.F.Forest.shows c.args.forest.now) c.args.thawed.now c.args.action c.args.next f (g.F.Forest.shows c.loop-var.forest) (c.loop-var.invariant.made m a w f).among.grows c.loop-var.expected c.loop-var.var b (c.loop-var.invariant.made m a w f).among.ok
     c.layout.ensures.sound (c.loop-var.invariant.made m a w f) (g.F.Forest.shows c.sum_variable.new.forest) _ c.in_err-expected.ensures.made))
 

@@ -9,14 +9,13 @@ use Rattle.spd_model.specs.Trees.{nesting, read_tree}
 use Rattle.spd_model.proofs.CallerLemmas.Trees.{read_tree-Branch}
 use Rattle.spd_model.proofs.CallerLemmas.StateOrder.{length-sizes}
 use Rattle.spd_nodes.specs.Shown.{IsWhole, MakesAmong}
-use Rattle.spd_nodes.proofs.CallerLemmas.{makes_among-known}
 use Rattle.spd_build.specs.Functions.{tree_function, tree_functions}
 use Rattle.spd_build.specs.Fitting.{FitsWith, StandForTrees}
-use Rattle.spd_build.specs.Made.{MakesAll}
-use Rattle.spd_build.proofs.Making.{Among, among-flat, has-then, has-none, has-made, all-out, part-failed, stand-grow, stand-known, stand-whole, stand-length, stand-more}
+use Rattle.spd_nodes.specs.Made.{MakesAll}
 use Rattle.spd_build.proofs.FittingLaws.{FitsBranch, fits-name, fits-branch, name-stands, nests-within}
 use Rattle.spd_build.proofs.TreeLaws.{kids-failed, whole-branch}
 use Rattle.spd_build.proofs.trees.+tree.Goals as goal
+use Rattle.spd_nodes.proofs.CallerLemmas.{Among, all-out, among-flat, has-made, has-none, has-then, makes_among-known, part-failed, stand-grow, stand-known, stand-length, stand-more, stand-whole}
 
 -- ---- the tree
 

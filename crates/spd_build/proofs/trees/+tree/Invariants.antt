@@ -2,7 +2,7 @@ use Rattle.std.proofs.Common.{◌≡◌, ◌+◌, ◌*◌, [], max, fold, map, t
 use Rattle.spd_model.specs.Trees.{nesting, read_tree}
 use Rattle.spd_build.specs.Fitting.{StandForTrees}
 use Rattle.spd_build.specs.Functions.{tree_functions}
-use Rattle.spd_build.specs.Made.{HasMade}
+use Rattle.spd_nodes.specs.Made.{HasMade}
 use Rattle.spd_build.proofs.trees.+tree.Given as goal
 
 -- how deep a tree nests, where the diagrams that it names count for nothing

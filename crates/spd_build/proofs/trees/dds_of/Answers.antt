@@ -5,11 +5,11 @@ use Rattle.spd_model.specs.Process.{Process}
 use Rattle.spd_model.specs.Lawful.{IsLawful}
 use Rattle.spd_build.specs.Functions.{tree_function, tree_functions}
 use Rattle.spd_build.specs.Fitting.{FitsWith}
-use Rattle.spd_build.specs.Made.{MakesAll}
-use Rattle.spd_build.proofs.Making.{Among, among-flat, has-none, has-then, has-made, all-out, part-failed, stand-more}
+use Rattle.spd_nodes.specs.Made.{MakesAll}
 use Rattle.std.proofs.lemmas.List.{length_push}
 use Rattle.spd_build.proofs.FittingLaws.{dd-fits}
 use Rattle.spd_build.proofs.trees.dds_of.Goals as goal
+use Rattle.spd_nodes.proofs.CallerLemmas.{Among, all-out, among-flat, has-made, has-none, has-then, part-failed, stand-more}
 
 pub tree_of-requires-clause-fits : goal.tree_of-requires-clause-fits
 tree_of-requires-clause-fits g c =

@@ -1,7 +1,7 @@
 use Rattle.std.proofs.Common.{◌≡◌, take, flat_map, length}
 use Rattle.spd_build.specs.Fitting.{StandForTrees}
 use Rattle.spd_build.specs.Functions.{tree_functions}
-use Rattle.spd_build.specs.Made.{HasMade}
+use Rattle.spd_nodes.specs.Made.{HasMade}
 use Rattle.spd_build.proofs.trees.dds_of.Given as goal
 
 abbrev pub invariant-loop-tree : goal.invariant-loop-tree

@@ -4,9 +4,9 @@ use Rattle.std.specs.Int.{w128}
 use Rattle.spd_nodes.specs.declared.leaf.Leaf.TheVariants.{Num}
 use Rattle.spd_nodes.specs.Trees.{Ends}
 use Rattle.spd_nodes.specs.Shown.{MakesTree}
-use Rattle.spd_nodes.proofs.CallerLemmas.{makes-diagram}
 use Rattle.spd_build.proofs.TreeLaws.{number-tree}
 use Rattle.spd_build.proofs.trees.number.Goals as goal
+use Rattle.spd_nodes.proofs.CallerLemmas.{makes-diagram}
 
 pub returns-clause-made : goal.returns-clause-made
 returns-clause-made g c =

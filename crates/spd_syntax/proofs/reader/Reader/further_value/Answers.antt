@@ -1,7 +1,7 @@
 use Rattle.std.proofs.Common.{◌∙◌, ap, arith}
 use Rattle.spd_syntax.specs.declared.refusal.Want.TheVariants as wants
 use Rattle.spd_syntax.specs.Words.{value_passes, text_of}
-use Rattle.spd_syntax.proofs.Moves.{err_is}
+use Rattle.spd_model.proofs.CallerLemmas.Results.{err_is}
 use Rattle.spd_syntax.proofs.FileMoves.{judged_err, judged_values, judged_tests, judged_ok}
 use Rattle.spd_syntax.proofs.reader.Reader.further_value.Goals as goal
 

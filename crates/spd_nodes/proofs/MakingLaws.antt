@@ -1,44 +1,67 @@
--- What calls make one after the other, of lists of functions.
-use Rattle.std.proofs.Common.{◌≡◌, ℕ, zero, suc, ◌+◌, ◌<◌, List, [], ◌∷◌, ◌++◌, length, map, flat_map, get_or, take, refl, sym, ap, ◌∙◌, subst, arith, inl, inr, Result, Ok, Err, IfErr, All, true}
+-- What calls make one after the other, of lists of functions; and entries that stand for the functions of a list.
+use Rattle.std.proofs.Common.{◌≡◌, ◌⊎◌, ℕ, zero, suc, ◌+◌, ◌<◌, List, [], ◌∷◌, ◌++◌, length, map, flat_map, get_or, take, refl, sym, ap, ◌∙◌, subst, arith, inl, inr, Result, Ok, Err, IfErr, All, true}
 use Rattle.std.specs.List.{AllZip}
 use Rattle.std.proofs.lemmas.List.{take_more, map_push}
 use Rattle.std.proofs.lemmas.List.Elements.{All-nil, All-cons}
 use Rattle.spd_cons_core.specs.declared.key.Entry.{Entry}
 use Rattle.spd_nodes.specs.declared.forest.StoreFault.{StoreFault}
 use Rattle.spd_nodes.specs.declared.forest.StoreFault.TheVariants as F
-use Rattle.spd_nodes.specs.Trees.{Tree, IsNodeOf}
-use Rattle.spd_nodes.specs.States.{Function, test_trees}
+use Rattle.spd_nodes.specs.Trees.{Tree, IsNode, IsNodeOf}
+use Rattle.spd_nodes.specs.States.{Function, test_tree, test_trees}
 use Rattle.spd_nodes.specs.Shown.{Shown, IsSound, IsWhole, Grows, MakesOnly, MakesAmong, StandsFor, FaultsAt}
 use Rattle.spd_nodes.proofs.ShownLaws.{Within, grows-none, grows-then, makes-none, makes-then, makes-within, faults-within, stands-grows}
-use Rattle.spd_build.specs.Made.{HasMade, MakesAll}
+use Rattle.spd_nodes.specs.Made.{HasMade, MakesAll}
 
 -- all nodes of some functions are nodes of others, whatever the layout
 pub record Among (fs gs : List Function) : Type 0 where
   pub nodes : (sizes : List ℕ) → Within (test_trees sizes fs) (test_trees sizes gs)
 
-in-front : (sizes : List ℕ) (x : Tree) (fs gs : List Function) → IsNodeOf x (test_trees sizes fs) → IsNodeOf x (test_trees sizes (fs ++ gs))
-in-front sizes x [] gs h = absurd h
-in-front sizes x (f ∷ fs) gs (inl a) = inl a
-in-front sizes x (f ∷ fs) gs (inr a) = inr (in-front sizes x fs gs a)
+nodes-front : (sizes : List ℕ) (x : Tree) (fs gs : List Function) → IsNodeOf x (test_trees sizes fs) → IsNodeOf x (test_trees sizes (fs ++ gs))
+nodes-front sizes x [] gs h = absurd h
+nodes-front sizes x (f ∷ fs) gs (inl a) = inl a
+nodes-front sizes x (f ∷ fs) gs (inr a) = inr (nodes-front sizes x fs gs a)
 
-in-back : (sizes : List ℕ) (x : Tree) (fs gs : List Function) → IsNodeOf x (test_trees sizes gs) → IsNodeOf x (test_trees sizes (fs ++ gs))
-in-back sizes x [] gs h = h
-in-back sizes x (f ∷ fs) gs h = inr (in-back sizes x fs gs h)
+nodes-back : (sizes : List ℕ) (x : Tree) (fs gs : List Function) → IsNodeOf x (test_trees sizes gs) → IsNodeOf x (test_trees sizes (fs ++ gs))
+nodes-back sizes x [] gs h = h
+nodes-back sizes x (f ∷ fs) gs h = inr (nodes-back sizes x fs gs h)
 
-among-trans : {fs gs hs : List Function} → Among fs gs → Among gs hs → Among fs hs
+pub among-trans : {fs gs hs : List Function} → Among fs gs → Among gs hs → Among fs hs
 among-trans a b = record { nodes = λ sizes. record { nodes = λ x h. (b.nodes sizes).nodes x ((a.nodes sizes).nodes x h) } }
 
 pub among-front : (fs gs : List Function) → Among fs (fs ++ gs)
-among-front fs gs = record { nodes = λ sizes. record { nodes = λ x h. in-front sizes x fs gs h } }
+among-front fs gs = record { nodes = λ sizes. record { nodes = λ x h. nodes-front sizes x fs gs h } }
 
 pub among-back : (fs gs : List Function) → Among gs (fs ++ gs)
-among-back fs gs = record { nodes = λ sizes. record { nodes = λ x h. in-back sizes x fs gs h } }
+among-back fs gs = record { nodes = λ sizes. record { nodes = λ x h. nodes-back sizes x fs gs h } }
 
 -- the functions of one entry are among those of a list
 pub among-flat : {X : Type 0} (f : X → List Function) (xs : List X) (k : ℕ) (d : X) → k < length xs → Among (f (get_or xs k d)) (flat_map f xs)
 among-flat f [] k d h = absurd (omega arith)
 among-flat f (x ∷ xs) zero d h = among-front (f x) (flat_map f xs)
 among-flat f (x ∷ xs) (suc k) d h = among-trans (among-flat f xs k d (omega arith)) (among-back (f x) (flat_map f xs))
+
+-- a function is one of a list
+abbrev pub IsIn : Function → List Function → Type 0
+IsIn f [] = ⊥
+IsIn f (g ∷ gs) = (g ≡ f) ⊎ IsIn f gs
+
+pub in-front : (f : Function) (fs gs : List Function) → IsIn f fs → IsIn f (fs ++ gs)
+in-front f [] gs h = absurd h
+in-front f (g ∷ fs) gs (inl e) = inl e
+in-front f (g ∷ fs) gs (inr h) = inr (in-front f fs gs h)
+
+pub in-back : (f : Function) (fs gs : List Function) → IsIn f gs → IsIn f (fs ++ gs)
+in-back f [] gs h = h
+in-back f (g ∷ fs) gs h = inr (in-back f fs gs h)
+
+-- nodes of its test tree are nodes of the list
+node-in : (sizes : List ℕ) (f : Function) (fs : List Function) → IsIn f fs → (x : Tree) → IsNode x (test_tree sizes f) → IsNodeOf x (test_trees sizes fs)
+node-in sizes f [] i x h = absurd i
+node-in sizes f (g ∷ fs) (inl e) x h = inl (subst (λ (u : Function). IsNode x (test_tree sizes u)) (sym e) h)
+node-in sizes f (g ∷ fs) (inr i) x h = inr (node-in sizes f fs i x h)
+
+pub within-in : (sizes : List ℕ) (f : Function) (fs : List Function) → IsIn f fs → Within (test_tree sizes f ∷ []) (test_trees sizes fs)
+within-in sizes f fs i = record { nodes = λ x h. elim h [ inl a ↦ node-in sizes f fs i x a | inr a ↦ absurd a ] }
 
 -- ---- what was made
 
@@ -61,7 +84,7 @@ has-made m = record { sound = m.sound; grows = m.grows; makes = m.makes }
 pub fault-wider : {fs gs : List Function} (e : StoreFault) (t : Shown) → Among fs gs → FaultsAt e t fs → FaultsAt e t gs
 fault-wider e t a h = faults-within e t (a.nodes t.sizes) h
 
-faults-wider : {A : Type 0} {fs gs : List Function} (t : Shown) → Among fs gs → (r : Result A StoreFault) → IfErr r (λ e. FaultsAt e t fs) → IfErr r (λ e. FaultsAt e t gs)
+pub faults-wider : {A : Type 0} {fs gs : List Function} (t : Shown) → Among fs gs → (r : Result A StoreFault) → IfErr r (λ e. FaultsAt e t fs) → IfErr r (λ e. FaultsAt e t gs)
 faults-wider t a (Ok x) h = tt
 faults-wider t a (Err e) h = fault-wider e t a h
 
@@ -108,7 +131,7 @@ stand-length s [] (f ∷ fs) h = absurd h
 stand-length s (r ∷ rs) [] h = absurd h
 stand-length s (r ∷ rs) (f ∷ fs) h = ap suc (stand-length s rs fs h.1)
 
-stand-push : (s : Shown) (rs : List Entry) (fs : List Function) (r : Entry) (f : Function) → AllZip (StandsFor s) rs fs → StandsFor s r f → AllZip (StandsFor s) (rs ++ r ∷ []) (fs ++ f ∷ [])
+pub stand-push : (s : Shown) (rs : List Entry) (fs : List Function) (r : Entry) (f : Function) → AllZip (StandsFor s) rs fs → StandsFor s r f → AllZip (StandsFor s) (rs ++ r ∷ []) (fs ++ f ∷ [])
 stand-push s [] [] r f h k = (k, tt)
 stand-push s [] (g ∷ fs) r f h k = absurd h
 stand-push s (q ∷ rs) [] r f h k = absurd h
@@ -122,3 +145,14 @@ stand-more {t = t} f xs i x g refs new r near is stand own e =
     ap (map f) (take_more xs i x near) ∙ map_push f (take i xs) (get_or xs i x) ∙ ap (λ y. map f (take i xs) ++ f y ∷ []) (sym is) in
     let all = stand-push t refs (map f (take i xs)) r (f x) (stand-grow g refs (map f (take i xs)) stand) own in
     subst (λ l. AllZip (StandsFor t) l (map f (take (i + 1) xs))) (sym e) (subst (AllZip (StandsFor t) (refs ++ r ∷ [])) (sym more) all)
+
+-- ---- two calls that make nodes of one list
+
+pub among-both : {s t v : Shown} {f g : Function} {nodes : List Function} {q r : Result Entry StoreFault} → MakesAmong s t f nodes q → MakesAmong t v g nodes r → MakesAmong s v g nodes r
+among-both {s = s} {t = t} {v = v} {nodes = nodes} m n = record {
+  sound = n.sound;
+  grows = grows-then m.grows n.grows;
+  ok = n.ok;
+  makes = makes-then m.sound n.grows m.makes (subst (λ (z : List ℕ). MakesOnly t v (test_trees z nodes)) m.grows.sizes n.makes);
+  fault = n.fault;
+}
