@@ -1,0 +1,1 @@
+-- The first state with a leaf that is wanted, computed on small functions by hand.
