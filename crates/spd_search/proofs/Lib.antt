@@ -4,5 +4,6 @@ pub mod Firsts
 pub mod SeekLaws
 pub mod WalkLaws
 pub mod FoundLaws
+pub mod PlaceLaws
 pub mod BarrenLaws
 pub mod CallerLemmas
