@@ -6,7 +6,7 @@ use Rattle.spd_nodes.specs.declared.leaf.Leaf.{Leaf}
 use Rattle.spd_nodes.specs.Levels.{levels_of, slots}
 use Rattle.spd_nodes.specs.Shown.{Shown, IsSound}
 use Rattle.spd_nodes.specs.Trees.{Tree, Ends, IsReduced}
-use Rattle.spd_apply.specs.Halves.{IsNotBefore, IsLeaf}
+use Rattle.spd_apply.specs.Halves.{yes_at, no_at, IsNotBefore, IsLeaf}
 use Rattle.spd_gather.specs.declared.rule.ListPlan.{ListPlan}
 use Rattle.spd_gather.specs.declared.rule.ListPlan.TheVariants as P
 use Rattle.spd_gather.specs.Down.{Each, FitsAt, last_leaf, at_leaves, at_each_leaf}
@@ -37,8 +37,8 @@ module _ (op : List Leaf → Leaf) (levels : ℕ) (s : Shown) (o : IsSound s) (k
         level_in = ranks.1;
         is = rw (h.yes_is, h.no_is, may.same) g.is_join;
         can_test = rw (h.yes_is, h.no_is, may.same) g.can_test;
-        yes_goes = record { known = h.yes_known; trees = rw h.yes_is (record { same = may.same; some = omega (arith, may.some, length-map ts); few = omega (arith, may.few, length-map ts); meet = meet.0 }) };
-        no_goes = record { known = h.no_known; trees = rw h.no_is (record { same = may.same; some = omega (arith, may.some, length-map ts); few = omega (arith, may.few, length-map ts); meet = meet.1 }) };
+        yes_goes = record { known = h.yes_known; trees = rw h.yes_is (record { same = may.same; some = omega (arith, may.some, length-map ts (yes_at l)); few = omega (arith, may.few, length-map ts (yes_at l)); meet = meet.0 }) };
+        no_goes = record { known = h.no_known; trees = rw h.no_is (record { same = may.same; some = omega (arith, may.some, length-map ts (no_at l)); few = omega (arith, may.few, length-map ts (no_at l)); meet = meet.1 }) };
         yes_smaller = rw h.yes_is (omega (arith, r.0, ranks.0));
         no_smaller = rw h.no_is (omega (arith, r.1, ranks.0));
       }

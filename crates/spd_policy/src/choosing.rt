@@ -6,8 +6,8 @@ ghost use Rattle.spd_nodes.specs.Shown.{Shown, meaning};
 ghost use Rattle.spd_policy.specs.Best.{lows_of, highs_of, lows_in, highs_in, IsNumeric, AreNumeric, MakesBestOf, AreBoundsOf, MakesPolicy};
 ghost use Rattle.spd_policy.specs.Choosing.{HoldBest};
 
-use crate::highest::highest;
-use crate::placing::first_highest;
+use crate::highest::greatest_bound;
+use crate::placing::first_greatest;
 use crate::tables::BestTables;
 use spd_apply::OpFault;
 use spd_backup::Bounds;
@@ -56,9 +56,9 @@ fn choose<F: Forest, L: Ledger>(
     ensures tables { HoldBest (F.shows forest.new) tables.new }
 {
     let _ = forest.layout();
-    let low = highest(alloc, forest, lows, &mut tables.greatest, steps)?;
-    let high = highest(alloc, forest, highs, &mut tables.greatest, steps)?;
-    let act = first_highest(alloc, forest, lows, &mut tables.places, steps)?;
+    let low = greatest_bound(alloc, forest, lows, &mut tables.greatest, steps)?;
+    let high = greatest_bound(alloc, forest, highs, &mut tables.greatest, steps)?;
+    let act = first_greatest(alloc, forest, lows, &mut tables.places, steps)?;
     Ok(Best { low, high, act })
 }
 

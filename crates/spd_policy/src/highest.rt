@@ -83,7 +83,7 @@ impl ListRule for Highest {
 }
 
 /// The greatest of several diagrams at each state.
-pub fn highest<F: Forest, L: Ledger>(
+pub fn greatest_bound<F: Forest, L: Ledger>(
     alloc: Global,
     forest: &mut F,
     list: &[Ref],

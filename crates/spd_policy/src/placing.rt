@@ -94,7 +94,7 @@ impl ListRule for Placing {
 }
 
 /// The place of the first of several diagrams that is the greatest, at each state, as an action.
-pub fn first_highest<F: Forest, L: Ledger>(
+pub fn first_greatest<F: Forest, L: Ledger>(
     alloc: Global,
     forest: &mut F,
     list: &[Ref],

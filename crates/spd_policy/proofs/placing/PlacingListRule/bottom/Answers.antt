@@ -22,11 +22,11 @@ first_place_of-place-requires-clause-leaves g c =
     let s = g.F.Forest.shows c.args.forest.now in
     all-of IsLeaf s c.args.list.now (decided-leaves s c.requires.sound c.args.list.now c.requires.met.known c.requires.ends (λ h. true≢false (sym (c.are_one.ensures.1 h) ∙ c.if-are_one.false)))
 
-pub returns-else-are_one-clause-made : goal.returns-else-are_one-clause-made
-returns-else-are_one-clause-made g c =
+pub returns-clause-made : goal.returns-clause-made
+returns-clause-made g c =
     let s = g.F.Forest.shows c.args.forest.now in
     let leaves = decided-leaves s c.requires.sound c.args.list.now c.requires.met.known c.requires.ends (λ h. true≢false (sym (c.are_one.ensures.1 h) ∙ c.if-are_one.false)) in
     let e = ap (λ p. Ends (Act p)) c.first_place_of-place.ensures.place ∙ sym (made-of-leaves place_leaf c.args.self.now.levels s c.requires.sound c.args.list.now c.requires.met.known c.requires.met.trees leaves) in
-    let made : MakesTree (g.F.Forest.shows c.first_place_of-place.new.forest) (g.F.Forest.shows c.leaf-else-are_one.new.self) (Ends (Act c.first_place_of-place.result)) c.leaf-else-are_one.result = record {
-      sound = c.leaf-else-are_one.ensures.sound; grows = c.leaf-else-are_one.ensures.grows; ok = c.leaf-else-are_one.ensures.ok; makes = c.leaf-else-are_one.ensures.makes; fault = c.leaf-else-are_one.ensures.fault } in
-    subst (λ u. MakesTree s (g.F.Forest.shows c.leaf-else-are_one.new.self) u c.leaf-else-are_one.result) e (rw c.first_place_of-place.ensures.same at made)
+    let made : MakesTree (g.F.Forest.shows c.first_place_of-place.new.forest) (g.F.Forest.shows c.leaf-2.new.self) (Ends (Act c.first_place_of-place.result)) c.leaf-2.result = record {
+      sound = c.leaf-2.ensures.sound; grows = c.leaf-2.ensures.grows; ok = c.leaf-2.ensures.ok; makes = c.leaf-2.ensures.makes; fault = c.leaf-2.ensures.fault } in
+    subst (λ u. MakesTree s (g.F.Forest.shows c.leaf-2.new.self) u c.leaf-2.result) e (rw c.first_place_of-place.ensures.same at made)

@@ -9,8 +9,8 @@ use Rattle.spd_policy.proofs.placing.PlacingListRule.plan.Goals as goal
 pub returns-then-are_one-clause-plan : goal.returns-then-are_one-clause-plan
 returns-then-are_one-clause-plan g c = inr (one-alike (g.F.Forest.shows c.args.forest.now) c.args.list.now (c.are_one.ensures.0 c.if-are_one.true))
 
-pub returns-else-are_one-clause-plan : goal.returns-else-are_one-clause-plan
-returns-else-are_one-clause-plan g c =
+pub returns-clause-plan : goal.returns-clause-plan
+returns-clause-plan g c =
     let s = g.F.Forest.shows c.args.forest.now in
     let levels = c.args.self.now.levels in
     plan-of (IsSplit s c.args.list.now) (IsListPlan (at_each_leaf levels place_leaf) (MayCompare levels s.sizes) IsDecided s c.args.list.now)

@@ -1,7 +1,7 @@
 use Rattle.spd_nodes.proofs.CallerLemmas.{makes-diagram}
 use Rattle.spd_policy.specs.Choosing.{place_leaf}
 use Rattle.spd_policy.proofs.ListLaws.{place-tree, levels-from, list-holds, list-ready}
-use Rattle.spd_policy.proofs.placing.first_highest.Goals as goal
+use Rattle.spd_policy.proofs.placing.first_greatest.Goals as goal
 
 pub make_list-requires : goal.make_list-requires
 make_list-requires g c =

@@ -1,7 +1,7 @@
 use Rattle.spd_nodes.proofs.CallerLemmas.{makes-diagram}
 use Rattle.spd_policy.specs.Choosing.{greatest_leaf}
 use Rattle.spd_policy.proofs.ListLaws.{greatest-tree, levels-from, list-holds, list-ready}
-use Rattle.spd_policy.proofs.highest.highest.Goals as goal
+use Rattle.spd_policy.proofs.highest.greatest_bound.Goals as goal
 
 pub make_list-requires : goal.make_list-requires
 make_list-requires g c =
