@@ -20,7 +20,7 @@ use Rattle.spd_weigh.specs.Leaves.{number_of}
 use Rattle.spd_build.specs.Functions.{numbers}
 use Rattle.spd_backup.specs.declared.backing.Bounds.{Bounds}
 use Rattle.spd_backup.specs.Expected.{bound}
-use Rattle.spd_policy.specs.declared.choosing.Best.{Best}
+use Rattle.spd_policy.specs.declared.chosen.Best.{Best}
 use Rattle.spd_policy.specs.Best.{numbers_at, greatest_of, policy_by, choosing_functions, best_functions, lows_of, highs_of, lows_in, highs_in, AreBest, MakesBest, MakesBestOf, lower_bounds, upper_bounds, AreBoundsOf, MakesPolicy}
 
 -- two lists of functions agree one by one

@@ -17,7 +17,7 @@ use Rattle.spd_weigh.specs.Leaves.{number_of}
 use Rattle.spd_build.specs.Functions.{numbers, constant}
 use Rattle.spd_backup.specs.declared.backing.Bounds.{Bounds}
 use Rattle.spd_backup.specs.Expected.{bound}
-use Rattle.spd_policy.specs.declared.choosing.Best.{Best}
+use Rattle.spd_policy.specs.declared.chosen.Best.{Best}
 
 -- the numbers of functions at a point
 abbrev pub numbers_at : List Function → List ℕ → List ℕ → List ℤ
@@ -85,10 +85,10 @@ abbrev pub highs_in : Shown → List Bounds → List Function
 highs_in s bounds = map (meaning s) (highs_of bounds)
 
 -- the two greatest bounds and the policy stand for these functions
-pub record AreBest (low high act : Function) (s : Shown) (b : Best) : Type 0 where
-  pub low : StandsFor s b.low low
-  pub high : StandsFor s b.high high
-  pub act : StandsFor s b.act act
+pub record AreBest (greatest_low greatest_high policy : Function) (s : Shown) (b : Best) : Type 0 where
+  pub low : StandsFor s b.low greatest_low
+  pub high : StandsFor s b.high greatest_high
+  pub act : StandsFor s b.act policy
 
 -- A call that makes the two greatest bounds and the policy. Whatever it answers, the forest is sound afterwards, shows all that it
 -- showed, and published nodes of choosing the best alone. Ok gives the three, and Full comes only where the forest is full and lacks

@@ -6,6 +6,7 @@ ghost use Rattle.spd_nodes.specs.Shown.{Shown, meaning};
 ghost use Rattle.spd_policy.specs.Best.{lows_of, highs_of, lows_in, highs_in, IsNumeric, AreNumeric, MakesBestOf, AreBoundsOf, MakesPolicy};
 ghost use Rattle.spd_policy.specs.Choosing.{HoldBest};
 
+use crate::chosen::Best;
 use crate::highest::greatest_bound;
 use crate::placing::first_greatest;
 use crate::tables::BestTables;
@@ -15,25 +16,26 @@ use spd_nodes::{Forest, Ref, Steps};
 use std::alloc::{AllocError, Global};
 use std::sync::ledger::Ledger;
 
-/// The greatest bounds over all actions at each state, in units of 10^-9, and the policy.
-#[derive(Clone, Copy, Debug, PartialEq, Eq)]
-pub struct Best {
-    /// The greatest lower bound.
-    pub low: Ref,
-    /// The greatest upper bound.
-    pub high: Ref,
-    /// The number of the first action that has the greatest lower bound, as an `Act`.
-    pub act: Ref,
+/// The lower bounds.
+fn lower(alloc: Global, bounds: &[Bounds]) -> Result<Vec<Ref>, AllocError>
+    ensures { IfOk result (λ v. v.items ≡ lows_of bounds.now) }
+{
+    bounds.iter().map(|b| b.lo).collect(alloc)
 }
 
-/// The lower bounds, and the upper ones.
+/// The upper bounds.
+fn upper(alloc: Global, bounds: &[Bounds]) -> Result<Vec<Ref>, AllocError>
+    ensures { IfOk result (λ v. v.items ≡ highs_of bounds.now) }
+{
+    bounds.iter().map(|b| b.hi).collect(alloc)
+}
+
+/// Both.
 fn sides(alloc: Global, bounds: &[Bounds]) -> Result<(Vec<Ref>, Vec<Ref>), AllocError>
     ensures lows { IfOk result (λ v. v.0.items ≡ lows_of bounds.now) }
     ensures highs { IfOk result (λ v. v.1.items ≡ highs_of bounds.now) }
 {
-    let lows = bounds.iter().map(|b| b.lo).collect(alloc)?;
-    let highs = bounds.iter().map(|b| b.hi).collect(alloc)?;
-    Ok((lows, highs))
+    Ok((lower(alloc, bounds)?, upper(alloc, bounds)?))
 }
 
 /// The best of lower and upper bounds, one of each for each action.

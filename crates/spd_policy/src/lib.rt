@@ -7,10 +7,12 @@
 #![tactic(auto)]
 
 mod choosing;
+mod chosen;
 mod comparing;
 mod highest;
 mod placing;
 mod tables;
 
-pub use choosing::{Best, best, best_with};
+pub use choosing::{best, best_with};
+pub use chosen::Best;
 pub use tables::BestTables;

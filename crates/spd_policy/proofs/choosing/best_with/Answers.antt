@@ -9,7 +9,7 @@ pub choose-requires : goal.choose-requires
 choose-requires g c =
     let s = g.F.Forest.shows c.args.forest.now in
     let lows : c.as_slice.result.now ≡ lows_of c.args.bounds.now = c.as_slice.ensures.value ∙ c.in-Ok.ensures.lows in
-    let highs : c.as_slice-2.result.now ≡ highs_of c.args.bounds.now = c.as_slice-2.ensures.value ∙ c.in-Ok.ensures.highs in
+    let highs : c.as_slice-in-Ok.result.now ≡ highs_of c.args.bounds.now = c.as_slice-in-Ok.ensures.value ∙ c.in-Ok.ensures.highs in
     record {
       lower = rw lows (lows-numeric s c.args.bounds.now c.requires.bounds);
       upper = rw highs (highs-numeric s c.args.bounds.now c.requires.bounds);
@@ -22,13 +22,13 @@ choose-requires g c =
 pub returns-in-Ok-clause-made : goal.returns-in-Ok-clause-made
 returns-in-Ok-clause-made g c =
     let lows : c.as_slice.result.now ≡ lows_of c.args.bounds.now = c.as_slice.ensures.value ∙ c.in-Ok.ensures.lows in
-    let highs : c.as_slice-2.result.now ≡ highs_of c.args.bounds.now = c.as_slice-2.ensures.value ∙ c.in-Ok.ensures.highs in
+    let highs : c.as_slice-in-Ok.result.now ≡ highs_of c.args.bounds.now = c.as_slice-in-Ok.ensures.value ∙ c.in-Ok.ensures.highs in
     rw (lows, highs) at c.choose.ensures.made
 
 pub returns-in-Ok-clause-policy : goal.returns-in-Ok-clause-policy
 returns-in-Ok-clause-policy g c = λ m w b.
     let lows : c.as_slice.result.now ≡ lows_of c.args.bounds.now = c.as_slice.ensures.value ∙ c.in-Ok.ensures.lows in
-    let highs : c.as_slice-2.result.now ≡ highs_of c.args.bounds.now = c.as_slice-2.ensures.value ∙ c.in-Ok.ensures.highs in
+    let highs : c.as_slice-in-Ok.result.now ≡ highs_of c.args.bounds.now = c.as_slice-in-Ok.ensures.value ∙ c.in-Ok.ensures.highs in
     makes-policy m w (g.F.Forest.shows c.args.forest.now) (g.F.Forest.shows c.choose.new.forest) c.args.bounds.now c.choose.result c.layout.ensures.sound b (rw (lows, highs) at c.choose.ensures.made)
 
 pub returns-in-Err-clause-made : goal.returns-in-Err-clause-made
