@@ -1,5 +1,5 @@
 -- Bounds that agree with others have the same best; and the best bounds and the policy of a process.
-use Rattle.std.proofs.Common.{◌≡◌, ℕ, zero, suc, List, [], ◌∷◌, ◌++◌, map, flat_map, length, take, refl, sym, ◌∙◌, ap, subst, ℤ, pos, true, Result, Ok, Err, IfOk, IfErr}
+use Rattle.std.proofs.Common.{◌≡◌, ℕ, zero, suc, List, [], ◌∷◌, ◌++◌, map, flat_map, length, take, refl, sym, ◌∙◌, ap, subst, ℤ, pos, Result, Ok, Err, IfOk, IfErr}
 use Rattle.std.specs.List.{AllZip}
 use Rattle.spd_cons_core.specs.declared.key.Entry.{Entry}
 use Rattle.spd_model.specs.declared.process.Action.{Action}
@@ -8,16 +8,13 @@ use Rattle.spd_model.specs.Numbers.{numbers_below, greatest, first_place}
 use Rattle.spd_model.specs.States.{IsState}
 use Rattle.spd_model.specs.Backup.{low_of, high_of, best_low, best_high, policy_of}
 use Rattle.spd_nodes.specs.declared.forest.StoreFault.{StoreFault}
-use Rattle.spd_nodes.specs.declared.leaf.Leaf.{Leaf}
 use Rattle.spd_nodes.specs.declared.leaf.Leaf.TheVariants.{Num, Pair, Act}
-use Rattle.spd_nodes.specs.Shown.{Shown, IsSound, Grows, StandsFor, MakesOnly, Faults, FaultsAt, meaning}
+use Rattle.spd_nodes.specs.Shown.{Shown, IsSound, StandsFor, MakesOnly, Faults, FaultsAt, meaning}
 use Rattle.spd_nodes.specs.States.{Function, Agree, test_tree, test_trees}
-use Rattle.spd_nodes.specs.Trees.{Tree}
 use Rattle.spd_nodes.proofs.CallerLemmas.{positive-slots, test_tree-agree}
 use Rattle.spd_restrict.specs.Chosen.{function_at}
 use Rattle.spd_weigh.specs.declared.way.Way.TheVariants.{Down, Up}
 use Rattle.spd_weigh.specs.Leaves.{number_of}
-use Rattle.spd_build.specs.Functions.{numbers}
 use Rattle.spd_backup.specs.declared.backing.Bounds.{Bounds}
 use Rattle.spd_backup.specs.Expected.{bound}
 use Rattle.spd_policy.specs.declared.chosen.Best.{Best}

@@ -1,5 +1,5 @@
 -- Lists whose trees are all one.
-use Rattle.std.proofs.Common.{◌≡◌, ℕ, zero, suc, ◌+◌, ◌<◌, ◌≤◌, List, [], ◌∷◌, map, length, get_or, refl, sym, ◌∙◌, ap, subst, arith, true, inl, inr, All}
+use Rattle.std.proofs.Common.{◌≡◌, ℕ, ◌<◌, List, [], ◌∷◌, map, length, get_or, refl, sym, ◌∙◌, ap, arith, true, inl, inr, All}
 use Rattle.std.proofs.lemmas.List.{length-map}
 use Rattle.std.proofs.lemmas.List.Elements.{All-nil, All-cons, All-head, All-tail, All-weaker}
 use Rattle.spd_cons_core.specs.declared.key.Entry.{Entry}
@@ -11,7 +11,7 @@ use Rattle.spd_nodes.proofs.CallerLemmas.{level_of-reduced}
 use Rattle.spd_apply.specs.Halves.{yes_at, no_at, IsLeaf, IsNotBefore}
 use Rattle.spd_gather.specs.Down.{Each, Stands, at_leaves, at_each_leaf, last_leaf}
 use Rattle.spd_gather.specs.Lists.{trees_of, AreKnown}
-use Rattle.spd_gather.proofs.CallerLemmas.{all-of, down-is, each-map, each-of}
+use Rattle.spd_gather.proofs.CallerLemmas.{down-is, each-map, each-of}
 use Rattle.spd_policy.specs.Choosing.{greatest_leaf, place_leaf, AreOne, AreAlike, IsDecided, MayCompare}
 use Rattle.spd_policy.proofs.LeafLaws.{greatest-alike, place-alike}
 

@@ -8,7 +8,7 @@ use Rattle.std.proofs.lemmas.List.{map_push, take_more}
 use Rattle.std.proofs.lemmas.List.Elements.{All-head, All-tail}
 use Rattle.spd_scaled.proofs.CallerLemmas.Ring.{int_eq-holds}
 use Rattle.spd_cons_core.specs.declared.key.Entry.{Entry}
-use Rattle.spd_model.specs.Numbers.{greatest, first_place}
+use Rattle.spd_model.specs.Numbers.{greatest}
 use Rattle.spd_model.proofs.CallerLemmas.Greatest.{IsFirstBest, first_best_start, first_place_is}
 use Rattle.spd_nodes.specs.declared.leaf.Leaf.{Leaf}
 use Rattle.spd_nodes.specs.declared.leaf.Leaf.TheVariants.{Num, Pair, Act}

@@ -13,7 +13,6 @@ use Rattle.spd_nodes.specs.Trees.{Tree, IsFrom, IsReduced}
 use Rattle.spd_nodes.specs.States.{Function, point}
 use Rattle.spd_nodes.specs.Shown.{Shown, IsSound, IsWhole, Grows, meaning}
 use Rattle.spd_nodes.proofs.CallerLemmas.{IsTreeFor}
-use Rattle.spd_apply.specs.Halves.{IsNotBefore}
 use Rattle.spd_apply.proofs.CallerLemmas.{not-before-from}
 use Rattle.spd_gather.specs.Down.{Each, Stands, at_leaves, at_each_leaf}
 use Rattle.spd_gather.specs.Lists.{trees_of, AreKnown, HoldsRows, IsListReady}

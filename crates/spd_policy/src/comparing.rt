@@ -38,11 +38,7 @@ pub fn leaf_of<F: Forest>(forest: &mut F, r: Ref) -> Leaf
 }
 
 /// How a list goes on: where not all Refs are leaves, to their halves at the lowest level. It fails only for want of memory.
-pub fn split<F: Forest>(
-    alloc: Global,
-    forest: &mut F,
-    list: &[Ref],
-) -> Result<ListPlan, AllocError>
+pub fn split<F: Forest>(alloc: Global, forest: &mut F, list: &[Ref]) -> Result<ListPlan, AllocError>
     requires known { AreKnown (F.shows forest.old) list.now }
     ensures same { F.shows forest.new ≡ F.shows forest.old }
     ensures keeps { F.kept forest.new ≡ F.kept forest.old }

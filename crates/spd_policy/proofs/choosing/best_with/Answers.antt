@@ -1,6 +1,5 @@
-use Rattle.std.proofs.Common.{◌≡◌, sym, ◌∙◌, ap, arith, length, map}
-use Rattle.spd_nodes.specs.Shown.{meaning}
-use Rattle.spd_policy.specs.Best.{lows_of, highs_of, lows_in, highs_in, greatest_of, policy_by, best_functions, lower_bounds, upper_bounds, MakesBestOf}
+use Rattle.std.proofs.Common.{◌≡◌, sym, ◌∙◌, ap, arith, length}
+use Rattle.spd_policy.specs.Best.{lows_of, highs_of, lows_in, highs_in, greatest_of, policy_by, best_functions, lower_bounds, upper_bounds}
 use Rattle.spd_policy.proofs.AgreeLaws.{makes-policy}
 use Rattle.spd_policy.proofs.BestLaws.{best-none, highs-length, highs-numeric, lows-length, lows-numeric}
 use Rattle.spd_policy.proofs.choosing.best_with.Goals as goal

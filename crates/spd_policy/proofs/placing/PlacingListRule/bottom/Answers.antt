@@ -28,5 +28,10 @@ returns-clause-made g c =
     let leaves = decided-leaves s c.requires.sound c.args.list.now c.requires.met.known c.requires.ends (λ h. true≢false (sym (c.are_one.ensures.1 h) ∙ c.if-are_one.false)) in
     let e = ap (λ p. Ends (Act p)) c.first_place_of-place.ensures.place ∙ sym (made-of-leaves place_leaf c.args.self.now.levels s c.requires.sound c.args.list.now c.requires.met.known c.requires.met.trees leaves) in
     let made : MakesTree (g.F.Forest.shows c.first_place_of-place.new.forest) (g.F.Forest.shows c.leaf-2.new.self) (Ends (Act c.first_place_of-place.result)) c.leaf-2.result = record {
-      sound = c.leaf-2.ensures.sound; grows = c.leaf-2.ensures.grows; ok = c.leaf-2.ensures.ok; makes = c.leaf-2.ensures.makes; fault = c.leaf-2.ensures.fault } in
+      sound = c.leaf-2.ensures.sound;
+      grows = c.leaf-2.ensures.grows;
+      ok = c.leaf-2.ensures.ok;
+      makes = c.leaf-2.ensures.makes;
+      fault = c.leaf-2.ensures.fault;
+    } in
     subst (λ u. MakesTree s (g.F.Forest.shows c.leaf-2.new.self) u c.leaf-2.result) e (rw c.first_place_of-place.ensures.same at made)
