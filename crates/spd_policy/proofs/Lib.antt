@@ -1,0 +1,8 @@
+pub mod CallerLemmas
+mod AgreeLaws
+mod AlikeLaws
+mod BestLaws
+mod LeafLaws
+mod ListLaws
+mod Rows
+mod SplitLaws
