@@ -1,7 +1,7 @@
 -- What thawing lists of nodes makes, and what a process's lists stand for.
 use Rattle.std.proofs.Common.{◌≡◌, ℕ, zero, suc, ◌+◌, ◌<◌, ◌≤◌, List, [], ◌∷◌, ◌++◌, length, map, take, get_or, refl, sym, ◌∙◌, ap, subst, arith, inl, inr, Result, Ok, Err, IfOk, IfErr, All}
 use Rattle.std.specs.List.{AllZip}
-use Rattle.std.proofs.lemmas.List.{get_or-take, take_more}
+use Rattle.std.proofs.lemmas.List.{get_or-map, get_or-take, length-map, take_more, take_more_same}
 use Rattle.std.proofs.lemmas.List.Elements.{All-nil, All-cons, All-map, All-weaker}
 use Rattle.spd_cons_core.specs.declared.key.Entry.{Entry}
 use Rattle.spd_model.specs.declared.process.Action.{Action}
@@ -16,7 +16,7 @@ use Rattle.spd_nodes.specs.Made.{HasMade, MakesAll}
 use Rattle.spd_nodes.specs.Shown.{Shown, IsSound, Grows, MakesOnly, Faults, FaultsAt, StandsFor}
 use Rattle.spd_nodes.specs.States.{Function, Agree, point, plain_part, primed_part, test_trees}
 use Rattle.spd_nodes.specs.Trees.{Tree}
-use Rattle.spd_nodes.proofs.CallerLemmas.{Among, IsIn, IsState-point, among-back, among-front, fault-wider, has-then, has-wider, positive-slots, stand-grow, stand-push, test_tree-agree, within-in}
+use Rattle.spd_nodes.proofs.CallerLemmas.{Among, IsIn, IsState-point, among-back, among-front, fault-wider, has-then, has-wider, positive-slots, stand-grow, stand-length, stand-push, test_tree-agree, within-in}
 use Rattle.spd_restrict.specs.Chosen.{function_at}
 use Rattle.spd_frozen.specs.Fits.{FitsSizes}
 use Rattle.spd_frozen.specs.Mixed.{mixed_of}
@@ -28,6 +28,16 @@ use Rattle.spd_build.specs.Functions.{all_weights, reward}
 use Rattle.spd_backup.specs.declared.thawed.Thawed.{Thawed}
 use Rattle.spd_backup.specs.Thawing.{IsThawedOf}
 use Rattle.spd_backup.specs.FromBuilt.{listed_weights, listed_rewards, thaw_functions, process_functions, IsThawedFrom, ThawsProcess}
+
+-- ---- lists one after the other
+
+-- two lists go on to be alike
+pub same-next : {A X : Type 0} (f : A → X) (xs ys : List A) (i : ℕ) (a b : A) → length xs ≡ length ys → i < length xs → a ≡ get_or xs i a → b ≡ get_or ys i b → f a ≡ f b → take i (map f xs) ≡ take i (map f ys)
+    → take (i + 1) (map f xs) ≡ take (i + 1) (map f ys)
+same-next f xs ys i a b long near ea eb same h =
+    let near' : i < length ys = omega arith in
+    take_more_same (map f xs) (map f ys) i (f a) (omega (arith, length-map xs f)) (omega (arith, length-map ys f)) h
+    (get_or-map f xs i a (f a) near ∙ ap f (sym ea) ∙ same ∙ ap f eb ∙ sym (get_or-map f ys i b (f a) near'))
 
 -- ---- a function of a list
 
@@ -53,6 +63,9 @@ take-long (suc n) [] i b l = absurd (omega arith)
 take-long (suc n) (f ∷ fs) zero b l = omega arith
 take-long (suc n) (f ∷ fs) (suc i) b l = let more : i < length (take n fs) = take-long n fs i (omega arith) (omega arith) in omega arith
 
+pub refs-long : (s : Shown) (rs : List Entry) (fs : List Function) (n i : ℕ) → AllZip (StandsFor s) rs (take n fs) → i < n → n ≤ length fs → i < length rs
+refs-long s rs fs n i h b l = omega (arith, stand-length s rs (take n fs) h, take-long n fs i b l)
+
 -- of entries for the first functions, one for an earlier function
 pub stands-before : (s : Shown) (rs : List Entry) (fs : List Function) (n i : ℕ) (d : Entry) → AllZip (StandsFor s) rs (take n fs) → i < n → n ≤ length fs → StandsFor s (get_or rs i d) (function_at fs i)
 stands-before s rs fs n i d h b l =
@@ -67,11 +80,11 @@ stand-next s t rs fs i r g h b k =
 
 -- ---- functions that agree one by one
 
-zip-both : {X Y : Type 0} (R : X → Y → Type 0) (as bs : List X) (cs ds : List Y) → AllZip R as cs → AllZip R bs ds → AllZip R (as ++ bs) (cs ++ ds)
-zip-both R [] bs [] ds h k = k
-zip-both R [] bs (c ∷ cs) ds h k = absurd h
-zip-both R (a ∷ as) bs [] ds h k = absurd h
-zip-both R (a ∷ as) bs (c ∷ cs) ds h k = (h.0, zip-both R as bs cs ds h.1 k)
+zip-both : {X Y : Type 0} (R : X → Y → Type 0) (ws xs : List X) (ys zs : List Y) → AllZip R ws ys → AllZip R xs zs → AllZip R (ws ++ xs) (ys ++ zs)
+zip-both R [] xs [] zs h k = k
+zip-both R [] xs (y ∷ ys) zs h k = absurd h
+zip-both R (w ∷ ws) xs [] zs h k = absurd h
+zip-both R (w ∷ ws) xs (y ∷ ys) zs h k = (h.0, zip-both R ws xs ys zs h.1 k)
 
 trees-agree : (sizes : List ℕ) → AllPositive (slots sizes) → (fs gs : List Function) → AllZip (Agree sizes) fs gs → test_trees sizes fs ≡ test_trees sizes gs
 trees-agree sizes some [] [] h = refl
@@ -95,19 +108,16 @@ stand-agree s o (r ∷ rs) [] gs h k = absurd h
 stand-agree s o (r ∷ rs) (f ∷ fs) [] h k = absurd k
 stand-agree s o (r ∷ rs) (f ∷ fs) (g ∷ gs) h k = (stands-agree s o r f g h.0 k.0, stand-agree s o rs fs gs h.1 k.1)
 
+faults-same : {A : Type 0} (t : Shown) (fs gs : List Function) → test_trees t.sizes fs ≡ test_trees t.sizes gs → (r : Result A StoreFault) → IfErr r (λ e. FaultsAt e t fs) → IfErr r (λ e. FaultsAt e t gs)
+faults-same t fs gs e (Ok x) h = tt
+faults-same t fs gs e (Err v) h = subst (λ (ts : List Tree). Faults v t ts) e h
+
 -- a call makes nodes of functions with the same test trees
 all-same : {A : Type 0} (s t : Shown) (fs gs : List Function) → test_trees s.sizes fs ≡ test_trees s.sizes gs → (r : Result A StoreFault) → MakesAll s t fs r → MakesAll s t gs r
 all-same s t fs gs e r h = record {
   made = record { sound = h.made.sound; grows = h.made.grows; makes = subst (λ (ts : List Tree). MakesOnly s t ts) e h.made.makes };
-  fault = faults r h.fault;
+  fault = faults-same t fs gs (subst (λ (z : List ℕ). test_trees z fs ≡ test_trees z gs) (sym h.made.grows.sizes) e) r h.fault;
 }
-  where
-    later : test_trees t.sizes fs ≡ test_trees t.sizes gs
-    later = subst (λ (z : List ℕ). test_trees z fs ≡ test_trees z gs) (sym h.made.grows.sizes) e
-
-    faults : (r : Result _ StoreFault) → IfErr r (λ e. FaultsAt e t fs) → IfErr r (λ e. FaultsAt e t gs)
-    faults (Ok x) k = tt
-    faults (Err v) k = subst (λ (ts : List Tree). Faults v t ts) later k
 
 -- ---- the lists of a process
 
@@ -162,14 +172,14 @@ module _ (s : Shown) (o : IsSound s) where
     positive : ArePositive (sizes m)
     positive = subst ArePositive same some-sizes
 
-    all-rewards : (as : List Action) → AllZip (Agree (sizes m)) (map frozen_function (map (λ a. frozen_numbers m (reward_of m a)) as)) (map (reward m) as)
+    all-rewards : (actions : List Action) → AllZip (Agree (sizes m)) (map frozen_function (map (λ a. frozen_numbers m (reward_of m a)) actions)) (map (reward m) actions)
     all-rewards [] = tt
-    all-rewards (a ∷ as) = (record { at = λ x y p q. frozen-leaf_at (sizes m) (λ z. Num (reward_of m a z)) positive x p }, all-rewards as)
+    all-rewards (a ∷ actions) = (record { at = λ x y p q. frozen-leaf_at (sizes m) (λ z. Num (reward_of m a z)) positive x p }, all-rewards actions)
 
-    rewards-fit : (as : List Action) → All (FitsSizes (sizes m)) (map (λ a. frozen_numbers m (reward_of m a)) as)
+    rewards-fit : (actions : List Action) → All (FitsSizes (sizes m)) (map (λ a. frozen_numbers m (reward_of m a)) actions)
     rewards-fit [] = All-nil (FitsSizes (sizes m))
-    rewards-fit (a ∷ as) =
-        All-cons (FitsSizes (sizes m)) (frozen_numbers m (reward_of m a)) (map (λ b. frozen_numbers m (reward_of m b)) as) (frozen-fits (sizes m) (λ z. Num (reward_of m a z)) positive) (rewards-fit as)
+    rewards-fit (a ∷ actions) =
+        All-cons (FitsSizes (sizes m)) (frozen_numbers m (reward_of m a)) (map (λ b. frozen_numbers m (reward_of m b)) actions) (frozen-fits (sizes m) (λ z. Num (reward_of m a z)) positive) (rewards-fit actions)
 
     module _ (b : Built) (built : IsBuilt m b) where
       weights-are : b.weights.items ≡ map (mixed_of s.sizes) (all_weights m)
