@@ -133,7 +133,7 @@ module _ (way : Way) (m : Process) (a : Action) (w : List ℕ → ℤ) (s : Show
     values = subst (λ (z : List ℕ). HasValues z (meaning t e)) (sym layout)
         (has-values m a has.thawed.law has.thawed.valid (is-offered m a t x k has) way w f.bounded var (omega (arith, near)) (meaning t e)
         (subst (λ (z : List ℕ). Agree z (meaning t e) (expected way m a w var)) layout stands.value));
-    tables = held;
+    held = held;
   }
 
   -- the sum over the process's weights

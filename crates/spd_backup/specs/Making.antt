@@ -56,4 +56,4 @@ pub record CanSumOut (way : Way) (s : Shown) (x : Thawed) (e : Entry) (action va
   pub count : length (weights_in x.sizes.items x.weights.items action var) ≡ slice_index s.sizes var
   pub weights : AreWeights s.sizes var (map (meaning s) (weights_in x.sizes.items x.weights.items action var))
   pub values : HasValues s.sizes (meaning s e)
-  pub tables : HoldSums way var s tables
+  pub held : HoldSums way var s tables

@@ -17,14 +17,14 @@ returns-in-Some-clause-made g c =
     let s = g.F.Forest.shows c.args.forest.now in
     let ws = weights_in c.args.thawed.now.sizes.items c.args.thawed.now.weights.items c.args.action c.args.var in
     let f = summed_out c.args.way c.args.var (map (meaning s) ws) (meaning s c.args.expected) in
-    let stands = last-stands c.args.way c.args.var s c.args.expected c.weights_of-weights.result.now c.in-Some.sum c.args.tables.now.last c.requires.tables.last c.in-Some.ensures in
+    let stands = last-stands c.args.way c.args.var s c.args.expected c.weights_of-weights.result.now c.in-Some.sum c.args.tables.now.last c.requires.held.last c.in-Some.ensures in
     makes_among-known s c.layout.ensures.sound c.in-Some.sum f (f ∷ []) (rw c.weights_of-weights.ensures at stands)
 
 pub returns-in-Some-clause-keeps : goal.returns-in-Some-clause-keeps
 returns-in-Some-clause-keeps g c = refl
 
 pub returns-in-Some-clause-tables : goal.returns-in-Some-clause-tables
-returns-in-Some-clause-tables g c = c.requires.tables
+returns-in-Some-clause-tables g c = c.requires.held
 
 -- ---- what is summed out now
 
@@ -40,7 +40,7 @@ sum_out_with-requires g c =
       count = rw c.weights_of-weights.ensures k.count;
       weights = rw c.weights_of-weights.ensures k.weights;
       values = k.values;
-      table = k.tables.rows;
+      table = k.held.rows;
     }
 
 pub returns-in_err-sum-clause-made : goal.returns-in_err-sum-clause-made
@@ -55,7 +55,7 @@ returns-in_err-sum-clause-keeps g c = c.sum_out_with.ensures.keeps
 
 pub returns-in_err-sum-clause-tables : goal.returns-in_err-sum-clause-tables
 returns-in_err-sum-clause-tables g c = record {
-  last = last-sum-grows c.args.way c.args.var (g.F.Forest.shows c.args.forest.now) (g.F.Forest.shows c.sum_out_with.new.forest) c.args.tables.now.last c.in_err-sum.ensures.made.grows c.requires.tables.last;
+  last = last-sum-grows c.args.way c.args.var (g.F.Forest.shows c.args.forest.now) (g.F.Forest.shows c.sum_out_with.new.forest) c.args.tables.now.last c.in_err-sum.ensures.made.grows c.requires.held.last;
   rows = c.sum_out_with.ensures.table;
 }
 
