@@ -1,4 +1,5 @@
 mod BackLaws
+mod BuiltLaws
 mod BridgeLaws
 mod BoundLaws
 mod CallerLemmas

@@ -15,18 +15,18 @@ use Rattle.spd_nodes.specs.declared.leaf.Leaf.TheVariants.{Num}
 use Rattle.spd_nodes.specs.Shown.{Shown, IsSound, IsWhole, Grows, StandsFor, MakesAmong, MakesDiagram, meaning}
 use Rattle.spd_nodes.specs.States.{Function, Agree}
 use Rattle.spd_gather.specs.Lists.{AreKnown}
-use Rattle.spd_gather.specs.Rows.{Row}
 use Rattle.spd_restrict.specs.Chosen.{function_at}
 use Rattle.spd_restrict.specs.Restricted.{restricted}
 use Rattle.spd_weigh.specs.declared.way.Way.{Way}
 use Rattle.spd_weigh.specs.declared.way.Way.TheVariants.{Down, Up}
 use Rattle.spd_weigh.specs.Leaves.{HasValues}
 use Rattle.spd_weigh.specs.Discounting.{discount_functions}
-use Rattle.spd_weigh.specs.Summed.{HoldsSums}
 use Rattle.spd_weigh.specs.Weighing.{summed_out, AreWeights, sum_out_functions, product_at}
+use Rattle.spd_backup.specs.declared.tables.SumTables.{SumTables}
 use Rattle.spd_backup.specs.declared.thawed.Thawed.{Thawed}
 use Rattle.spd_build.specs.Functions.{weights_of}
 use Rattle.spd_backup.specs.Expected.{next_value, expected, bound, bound_functions, backup_functions, AreExpected}
+use Rattle.spd_backup.specs.Keeping.{HoldSums}
 use Rattle.spd_backup.specs.Thawing.{weights_in, HasAction}
 use Rattle.spd_backup.specs.Making.{Follows, MakesFirst, CanSumOut}
 use Rattle.spd_backup.proofs.BridgeLaws.{summed-agrees, summed-expected, zip-agrees, weight-at, are-weights, has-values}
@@ -114,8 +114,8 @@ module _ (way : Way) (m : Process) (a : Action) (w : List ℕ → ℤ) (s : Show
   same-weights : (v : ℕ) → v < length (weights_of m a var) → Agree t.sizes (function_at (map (meaning t) ws) v) (function_at (weights_of m a var) v)
   same-weights = zip-agrees t ws (weights_of m a var) zipped
 
-  pub can-sum-out : (rows : List Row) → HoldsSums way var t rows → CanSumOut way t x e k var rows
-  can-sum-out rows table = record {
+  pub can-sum-out : (tables : SumTables) → HoldSums way var t tables → CanSumOut way t x e k var tables
+  can-sum-out tables held = record {
     few = (let own : length x.sizes.items ≡ length (sizes m) = ap length f.has.thawed.own in omega (arith, own, length-sizes m, f.has.thawed.law.few_vars));
     var_in = b;
     room = weights-room m a t x k has;
@@ -133,7 +133,7 @@ module _ (way : Way) (m : Process) (a : Action) (w : List ℕ → ℤ) (s : Show
     values = subst (λ (z : List ℕ). HasValues z (meaning t e)) (sym layout)
         (has-values m a has.thawed.law has.thawed.valid (is-offered m a t x k has) way w f.bounded var (omega (arith, near)) (meaning t e)
         (subst (λ (z : List ℕ). Agree z (meaning t e) (expected way m a w var)) layout stands.value));
-    table = table;
+    held = held;
   }
 
   -- the sum over the process's weights

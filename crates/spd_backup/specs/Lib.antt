@@ -1,4 +1,5 @@
 pub mod Expected
 pub mod Thawing
+pub mod FromBuilt
 pub mod Keeping
 pub mod Making

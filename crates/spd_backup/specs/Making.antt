@@ -8,13 +8,13 @@ use Rattle.spd_model.specs.Turns.{IsBounded}
 use Rattle.spd_nodes.specs.declared.forest.StoreFault.{StoreFault}
 use Rattle.spd_nodes.specs.Shown.{Shown, IsWhole, StandsFor, MakesAmong, meaning}
 use Rattle.spd_gather.specs.Lists.{AreKnown}
-use Rattle.spd_gather.specs.Rows.{Row}
 use Rattle.spd_weigh.specs.declared.way.Way.{Way}
 use Rattle.spd_weigh.specs.Leaves.{HasValues}
-use Rattle.spd_weigh.specs.Summed.{HoldsSums}
 use Rattle.spd_weigh.specs.Weighing.{AreWeights}
+use Rattle.spd_backup.specs.declared.tables.SumTables.{SumTables}
 use Rattle.spd_backup.specs.declared.thawed.Thawed.{Thawed}
 use Rattle.spd_backup.specs.Expected.{next_value, expected, bound, backup_functions, AreExpected}
+use Rattle.spd_backup.specs.Keeping.{HoldSums}
 use Rattle.spd_backup.specs.Thawing.{weights_in, HasAction}
 
 -- an action is backed up where a value within limits follows, whose primed diagram is there
@@ -43,8 +43,8 @@ pub record MakesBound (way : Way) (m : Process) (a : Action) (w : List ℕ → �
   pub among : MakesAmong old new (bound way m a w) (backup_functions m a w) result
   pub known : IfOk result (λ _. AreExpected way m a w new (length m.vars))
 
--- a variable may be summed out of an entry by an action's weights of it, with a table of such sums
-pub record CanSumOut (way : Way) (s : Shown) (x : Thawed) (e : Entry) (action var : ℕ) (rows : List Row) : Type 0 where
+-- a variable may be summed out of an entry by an action's weights of it, with tables of such sums
+pub record CanSumOut (way : Way) (s : Shown) (x : Thawed) (e : Entry) (action var : ℕ) (tables : SumTables) : Type 0 where
   pub few : length x.sizes.items ≤ 100
   pub var_in : var < length x.sizes.items
   pub room : (action + 1) * sum x.sizes.items ≤ length x.weights.items
@@ -56,4 +56,4 @@ pub record CanSumOut (way : Way) (s : Shown) (x : Thawed) (e : Entry) (action va
   pub count : length (weights_in x.sizes.items x.weights.items action var) ≡ slice_index s.sizes var
   pub weights : AreWeights s.sizes var (map (meaning s) (weights_in x.sizes.items x.weights.items action var))
   pub values : HasValues s.sizes (meaning s e)
-  pub table : HoldsSums way var s rows
+  pub held : HoldSums way var s tables

@@ -4,15 +4,14 @@ ghost use Rattle.std.specs.Prelude.{◌≡◌, ℕ, List, ℤ, length, map};
 ghost use Rattle.spd_model.specs.Process.{Process};
 ghost use Rattle.spd_model.specs.declared.process.Action.{Action};
 ghost use Rattle.spd_nodes.specs.Shown.{Shown, MakesDiagram, meaning};
-ghost use Rattle.spd_weigh.specs.Summed.{HoldsSums};
 ghost use Rattle.spd_weigh.specs.Weighing.{summed_out};
 ghost use Rattle.spd_backup.specs.Thawing.{weights_in};
-ghost use Rattle.spd_backup.specs.Keeping.{HoldEachSum};
+ghost use Rattle.spd_backup.specs.Keeping.{HoldSums, HoldEachSum};
 ghost use Rattle.spd_backup.specs.Making.{IsFollowed, Follows, MakesExpected, CanSumOut};
 
+use crate::tables::{SumTables, kept_sum, last_sum};
 use crate::thawed::{Thawed, weights_of};
 use spd_apply::OpFault;
-use spd_gather::Table;
 use spd_nodes::{Forest, Ref, Steps};
 use spd_weigh::{Way, sum_out_with};
 use std::alloc::Global;
@@ -27,18 +26,31 @@ fn sum_variable<F: Forest, L: Ledger>(
     action: u32,
     var: usize,
     way: Way,
-    table: &mut Table,
+    tables: &mut SumTables,
     steps: &mut Steps<L>,
 ) -> Result<Ref, OpFault>
-    requires { CanSumOut way (F.shows forest.old) thawed.now expected action var table.old }
+    requires { CanSumOut way (F.shows forest.old) thawed.now expected action var tables.old }
     ensures made { MakesDiagram (F.shows forest.old) (F.shows forest.new) (summed_out way var (map (meaning (F.shows forest.old)) (weights_in thawed.now.sizes.items thawed.now.weights.items action var)) (meaning (F.shows forest.old) expected)) result }
     ensures keeps { F.kept forest.new ≡ F.kept forest.old }
-    ensures table { HoldsSums way var (F.shows forest.new) table.new }
+    ensures tables { HoldSums way var (F.shows forest.new) tables.new }
 {
+    let _ = forest.layout();
     let weights = weights_of(thawed, action, var);
-    sum_out_with(
-        alloc, forest, expected, var as u32, weights, way, table, steps,
-    )
+    if let Some(sum) = last_sum(&tables.last, expected, weights) {
+        return Ok(sum);
+    }
+    let sum = sum_out_with(
+        alloc,
+        forest,
+        expected,
+        var as u32,
+        weights,
+        way,
+        &mut tables.rows,
+        steps,
+    )?;
+    tables.last = kept_sum(alloc, expected, weights, sum);
+    Ok(sum)
 }
 
 /// The expectation of a primed value after an action: the variables' next values are summed out in order, one after another. The
@@ -50,7 +62,7 @@ pub fn expect<F: Forest, L: Ledger>(
     next: Ref,
     action: u32,
     way: Way,
-    sums: &mut Vec<Table>,
+    sums: &mut Vec<SumTables>,
     steps: &mut Steps<L>,
 ) -> Result<Ref, OpFault>
     requires followed { IsFollowed (F.shows forest.old) thawed.now action next }

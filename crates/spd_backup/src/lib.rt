@@ -10,7 +10,9 @@ mod backing;
 mod expecting;
 mod tables;
 mod thawed;
+mod thawing;
 
 pub use backing::{Bounds, backup, backup_with};
-pub use tables::{Tables, WayTables};
+pub use tables::{LastSum, SumTables, Tables, WayTables};
 pub use thawed::Thawed;
+pub use thawing::thaw_built;

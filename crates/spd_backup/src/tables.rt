@@ -1,20 +1,41 @@
 //! The answers of a backup's operations, kept from action to action.
 
-ghost use Rattle.std.specs.Prelude.{◌≡◌, ℕ, ◌<◌, length, IfOk};
+ghost use Rattle.std.specs.Prelude.{◌≡◌, ℕ, ◌<◌, length, IfOk, IfSome, IsSomeAnd, IsTrue};
 ghost use Rattle.spd_nodes.specs.Shown.{Shown};
 ghost use Rattle.spd_weigh.specs.declared.way.Way.{Way};
-ghost use Rattle.spd_backup.specs.Keeping.{HoldEachSum, HoldWay, HoldAll};
+ghost use Rattle.spd_backup.specs.Keeping.{IsSumOf, HoldEachSum, HoldWay, HoldAll};
 
 use spd_gather::Table;
 use spd_memo::Memo;
 use spd_nodes::Ref;
 use std::alloc::{AllocError, Global};
 
+/// A variable summed out of a diagram.
+#[derive(Drop)]
+pub struct LastSum {
+    /// The diagram.
+    pub of: Ref,
+    /// The weights of the variable's values.
+    pub weights: Vec<Ref>,
+    /// The diagram that was made.
+    pub sum: Ref,
+}
+
+/// The answers of summing out one variable.
+#[derive(Drop)]
+pub struct SumTables {
+    /// What was summed out last. Where an action's weights of the first variables are those of the action before, nothing is made: what
+    /// that one made stands here, whatever answers the table has let go.
+    pub last: Option<LastSum>,
+    /// The answers of the recursion.
+    pub rows: Table,
+}
+
 /// The answers of one way of rounding.
 #[derive(Drop)]
 pub struct WayTables {
-    /// Those of summing out, one table for each variable.
-    pub sums: Vec<Table>,
+    /// Those of summing out, for each variable.
+    pub sums: Vec<SumTables>,
     /// Those of discounting.
     pub discounts: Table,
 }
@@ -32,13 +53,56 @@ pub struct Tables {
     pub adds: Memo,
 }
 
-/// A table for each variable, with at most so many places each.
-fn sum_tables(alloc: Global, sizes: &[u8], memo_size: usize) -> Result<Vec<Table>, AllocError>
+/// Whether two lists are the same.
+fn is_same(a: &[Ref], b: &[Ref]) -> bool
+    ensures { IsTrue result → a.now ≡ b.now }
+{
+    if a.len() != b.len() {
+        return false;
+    }
+    for i in 0..a.len() {
+        if a[i] != b[i] {
+            return false;
+        }
+    }
+    true
+}
+
+/// What was summed out last, if it is this diagram by these weights.
+pub fn last_sum(last: &Option<LastSum>, of: Ref, weights: &[Ref]) -> Option<Ref>
+    ensures { IfSome result (λ sum. IsSomeAnd last.now (IsSumOf of weights.now sum)) }
+{
+    match last {
+        Some(made) if made.of == of && is_same(&made.weights, weights) => Some(made.sum),
+        _ => None,
+    }
+}
+
+/// What was summed out now. Where there is no memory nothing is kept.
+pub fn kept_sum(alloc: Global, of: Ref, weights: &[Ref], sum: Ref) -> Option<LastSum>
+    ensures { IfSome result (IsSumOf of weights.now sum) }
+{
+    let mut kept = Vec::new(alloc);
+    match kept.extend_from_slice(weights) {
+        Ok(()) => Some(LastSum {
+            of,
+            weights: kept,
+            sum,
+        }),
+        Err(_) => None,
+    }
+}
+
+/// Tables for each variable, with at most so many places each.
+fn sum_tables(alloc: Global, sizes: &[u8], memo_size: usize) -> Result<Vec<SumTables>, AllocError>
     ensures { IfOk result (λ v. (way : Way) (s : Shown) → HoldEachSum way (length sizes.now) s v.items) }
 {
     let mut sums = Vec::with_capacity(alloc, sizes.len())?;
     for size in sizes {
-        sums.push(Table::new(alloc, 2 * *size as usize, memo_size))?;
+        sums.push(SumTables {
+            last: None,
+            rows: Table::new(alloc, 2 * *size as usize, memo_size),
+        })?;
     }
     Ok(sums)
 }

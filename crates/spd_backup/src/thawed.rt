@@ -19,7 +19,7 @@ pub struct Thawed {
 }
 
 /// The sum of variables' numbers of values.
-fn count_of(sizes: &[u8]) -> usize
+pub fn count_of(sizes: &[u8]) -> usize
     requires { length sizes.now ≤ 100 }
     ensures sum { result ≡ sum sizes.now }
     ensures few { result ≤ 25500 }
