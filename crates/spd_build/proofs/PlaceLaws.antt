@@ -124,14 +124,14 @@ module _ (m : Process) (law : IsLawful m) (k : ℕ) (a : Action) (i : ℕ) (f : 
   wrong x = not (int_eq x.sum one)
 
   -- the first wrong sum is what a search along the sums' diagram finds
-  pub sum-first : first_wrong (variable_sums m (k, a) i) ≡ option_map sum_found (first_found (sizes m) is_wrong f)
+  sum-first : first_wrong (variable_sums m (k, a) i) ≡ option_map sum_found (first_found (sizes m) is_wrong f)
   unfolding sum_from sum_at sum_found number
   sum-first =
       find-flat-same wrong (λ s. map (sum_from s) (states (drop (suc i) (sizes m)))) (λ s. map (λ t. sum_from s (drop (suc i) t)) (states (sizes m))) (states (sizes m))
       (λ s. find-dropped wrong (sum_from s) (suc i) (sizes m) (sizes_some m law))
       ∙ ap (find wrong) (sym (map-pairs sum_at (states (sizes m)) (states (sizes m))))
       ∙ find-alike wrong (λ z. is_wrong (f z.0 z.1)) sum_at (found_at f) sum_found (state_pairs (sizes m))
-      (All-pairs _ (sizes m) (λ s t p q. record { passes = ap is_wrong (sym (same.at s t p q)); image = ap (λ l. record { action = k; var = i; state = s; sum = number l }) (sym (same.at s t p q)) }))
+      (All-pairs (Alike wrong (λ (z : List ℕ × List ℕ). is_wrong (f z.0 z.1)) sum_at (found_at f) sum_found) (sizes m) (λ s t p q. record { passes = ap is_wrong (sym (same.at s t p q)); image = ap (λ l. record { action = k; var = i; state = s; sum = number l }) (sym (same.at s t p q)) }))
 
   pub none-wrong : None ≡ first_found (sizes m) is_wrong f → first_wrong (variable_sums m (k, a) i) ≡ None
   none-wrong h = sum-first ∙ ap (option_map sum_found) (sym h)

@@ -1,19 +1,25 @@
 -- Weights that are made one after another, with the test of their sums.
 use Rattle.std.proofs.Common.{◌≡◌, ℕ, zero, suc, ◌+◌, ◌<◌, ◌≤◌, List, [], ◌∷◌, ◌++◌, length, flat_map, take, take_all, get_or, not, refl, ap, sym, ◌∙◌, subst, append_assoc, append-nil, arith, Result, Ok, Err, Some, None}
-use Rattle.std.specs.List.{AllZip}
+use Rattle.std.specs.List.{AllZip, enumerate_from}
 use Rattle.std.specs.Ordering.{int_eq}
 use Rattle.std.proofs.lemmas.List.{take_more}
+use Rattle.std.proofs.lemmas.Grind.{get_or_default_zero}
 use Rattle.std.proofs.lemmas.List.Concat.{flat_map-append}
+use Rattle.std.proofs.lemmas.List.FromFn.{get_or-enumerate_from}
 use Rattle.spd_cons_core.specs.declared.key.Entry.{Entry}
 use Rattle.spd_model.specs.Chances.{Sum, one}
+use Rattle.spd_model.specs.Numbers.{numbers_below}
 use Rattle.spd_model.proofs.CallerLemmas.Finds.{find_none_more, find_here}
+use Rattle.spd_model.proofs.CallerLemmas.Lists.{get_or-numbers_below, length-numbers_below}
+use Rattle.spd_nodes.specs.declared.forest.StoreFault.{StoreFault}
 use Rattle.spd_nodes.specs.declared.forest.StoreFault.TheVariants as Store
-use Rattle.spd_nodes.specs.Shown.{Shown, IsSound, Grows, StandsFor}
+use Rattle.spd_nodes.specs.Shown.{Shown, IsSound, FaultsAt, Grows, StandsFor}
 use Rattle.spd_nodes.specs.States.{Function}
 use Rattle.spd_nodes.specs.Made.{HasMade}
 use Rattle.spd_nodes.proofs.CallerLemmas.{Among, among-flat, fault-wider, has-none, has-then, stand-grow, stand-push}
 use Rattle.spd_build.specs.declared.built.BuildFault.{BuildFault}
 use Rattle.spd_build.specs.declared.built.BuildFault.TheVariants as Fault
+use Rattle.spd_build.specs.Building.{build_fault}
 use Rattle.spd_build.specs.Tables.{CauseIn, MakesWeights, StandAfter, WeighsFirst, first_wrong}
 
 -- ---- entries after others
@@ -37,6 +43,26 @@ pub after-then : {s t u : Shown} {refs more next : List Entry} {fs gs : List Fun
 after-then {u = u} {next = next} {fs = fs} {gs = gs} h k = record {
   each = λ before stand. subst (AllZip (StandsFor u) next) (append_assoc before fs gs) (k.each (before ++ fs) (h.each before stand));
 }
+
+-- ---- faults of the forest
+
+pub forest-cause : (of : List Sum) (nodes : List Function) (t : Shown) (e : StoreFault) → FaultsAt e t nodes → CauseIn of nodes t (build_fault e)
+forest-cause of nodes t Store.Full h = h
+forest-cause of nodes t Store.Memory h = tt
+
+-- ---- entries of lists of numbers
+
+pub numbered : (n i : ℕ) → i < n → i ≡ get_or (numbers_below n) i i
+numbered n i near = sym (get_or_default_zero (numbers_below n) i i (omega (arith, length-numbers_below n)) ∙ get_or-numbers_below n i near)
+
+pub enumerated : {X : Type 0} (xs : List X) (k : ℕ) (x : X) → k < length xs → x ≡ get_or xs k x → (k, x) ≡ get_or (enumerate_from 0 xs) k (k, x)
+enumerated xs k x near is =
+    let at : k ≡ 0 + k = omega arith in
+    (λ n. (at n, is n)) ∙ sym (get_or-enumerate_from 0 xs k (k, x) near)
+
+pub flat-enumerate : {X Y : Type 0} (f : X → List Y) (k : ℕ) (xs : List X) → flat_map (λ (p : ℕ × X). f p.1) (enumerate_from k xs) ≡ flat_map f xs
+flat-enumerate f k [] = refl
+flat-enumerate f k (x ∷ xs) = ap (λ l. f x ++ l) (flat-enumerate f (k + 1) xs)
 
 -- ---- table after table
 

@@ -3,8 +3,9 @@
 ghost use Rattle.std.specs.Prelude.{◌≡◌, ℕ, ◌<◌, ◌≤◌, [], ◌∷◌, ◌++◌, length, flat_map, slice_index, true, None, IfOk, IfErr};
 ghost use Rattle.std.specs.List.{AllZip};
 ghost use Rattle.spd_model.specs.Lawful.{IsAction};
-ghost use Rattle.spd_model.specs.Chances.{first_wrong_sum};
+ghost use Rattle.spd_model.specs.Chances.{first_wrong_sum, sums_of};
 ghost use Rattle.spd_model.specs.States.{sizes};
+ghost use Rattle.spd_nodes.specs.declared.leaf.Leaf.TheVariants.{Num};
 ghost use Rattle.spd_nodes.specs.Made.{HasMade};
 ghost use Rattle.spd_nodes.specs.Shown.{Shown, IsWhole, StandsFor, MakesAmong, MakesDiagram, meaning};
 ghost use Rattle.spd_restrict.specs.Restricted.{restricted};
@@ -21,7 +22,7 @@ use spd_memo::Memo;
 use spd_model::{Action, Model};
 use spd_nodes::{Forest, Leaf, Ref, Steps};
 use spd_restrict::cofactor;
-use spd_search::{Wanted, first_place};
+use spd_search::{Wanted, first_found};
 use std::alloc::Global;
 use std::sync::ledger::Ledger;
 
@@ -141,7 +142,7 @@ fn weigh_variable<F: Forest, L: Ledger>(
     // Reading a field tells the proof what every model keeps.
     let _vars = &model.vars;
     let sum = weigh_values(alloc, model, forest, action, var, dds, weights, adds, steps)?;
-    match first_place(alloc, forest, sum, &WrongSum) {
+    match first_found(alloc, forest, sum, &WrongSum) {
         Ok(None) => Ok(()),
         Ok(Some(found)) => Err(BuildFault::Sum {
             action: number as u32,
@@ -185,10 +186,40 @@ fn weigh_action<F: Forest, L: Ledger>(
     Ok(())
 }
 
-/// The weights of all actions' variables, in units of 10^-12: by action, then variable, then the variable's next value.
+/// The weights of all actions' variables, which are put in the last places, and the test that those of each variable sum to one.
+fn weigh_actions<F: Forest, L: Ledger>(
+    alloc: Global,
+    model: &Model,
+    forest: &mut F,
+    dds: &[Ref],
+    weights: &mut Vec<Ref>,
+    adds: &mut Memo,
+    steps: &mut Steps<L>,
+) -> Result<(), BuildFault>
+    requires layout { (F.shows forest.old).sizes ≡ sizes model.now }
+    requires dds { StandForTrees (F.shows forest.old) model.now model.now.dds dds.now }
+    requires adds { HoldAdds (F.shows forest.old) adds.old }
+    ensures made { MakesWeights (sums_of model.now) (all_table_functions model.now) (all_weights model.now) (F.shows forest.old) (F.shows forest.new) weights.old.items weights.new.items result }
+    ensures adds { HoldAdds (F.shows forest.new) adds.new }
+    ensures keeps { F.kept forest.new ≡ F.kept forest.old }
+{
+    let _ = forest.layout();
+    let actions = model.actions.as_slice();
+    for number in 0..actions.len() {
+        let action = &actions[number];
+        weigh_action(
+            alloc, model, forest, number, action, dds, weights, adds, steps,
+        )?;
+    }
+    Ok(())
+}
+
+/// The weights of all actions' variables, in units of 10^-12: by action, then variable, then the variable's next value. `dds` has the
+/// diagrams of all of the model's decision diagrams, and the memo holds sums.
 ///
-/// Sum comes exactly where some probabilities don't sum to one, and tells the first of them. It makes only nodes of the functions of
-/// the actions' tables. Full comes only where a call of the forest answered Full in this call.
+/// Sum comes exactly where some probabilities don't sum to one, and tells the first sum that isn't one. It makes only nodes of the
+/// functions of the actions' tables. Full comes only where a call of the forest answered Full in this call, and Memory for want of
+/// memory. Calls nest at most as deep as those of `tree_of`.
 pub(crate) fn all_weights<F: Forest, L: Ledger>(
     alloc: Global,
     model: &Model,
@@ -208,20 +239,7 @@ pub(crate) fn all_weights<F: Forest, L: Ledger>(
     ensures keeps { F.kept forest.new ≡ F.kept forest.old }
 {
     let _ = forest.layout();
-    let actions = model.actions.as_slice();
-    let mut weights = with_room(alloc, actions.len())?;
-    for number in 0..actions.len() {
-        weigh_action(
-            alloc,
-            model,
-            forest,
-            number,
-            &actions[number],
-            dds,
-            &mut weights,
-            adds,
-            steps,
-        )?;
-    }
+    let mut weights = with_room(alloc, model.actions.as_slice().len())?;
+    weigh_actions(alloc, model, forest, dds, &mut weights, adds, steps)?;
     Ok(weights)
 }

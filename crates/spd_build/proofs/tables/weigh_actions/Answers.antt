@@ -1,0 +1,2 @@
+use Rattle.spd_build.proofs.tables.weigh_actions.Goals as goal
+
