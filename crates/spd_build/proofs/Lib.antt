@@ -3,3 +3,4 @@ pub mod FittingLaws
 pub mod TableLaws
 pub mod WeighingLaws
 pub mod PlaceLaws
+mod TableRows

@@ -1,5 +1,5 @@
 -- An action's table of a variable: the weights of the variable's values, and the sums of them.
-use Rattle.std.proofs.Common.{◌≡◌, ℕ, zero, suc, ◌+◌, ◌*◌, ◌^◌, ◌<◌, ◌≤◌, Bool, true, false, List, [], ◌∷◌, ◌++◌, length, map, flat_map, take, drop, set, get_or, slice_index, slice_index_or, All, ℤ, pos, negsuc, ◌+ℤ◌, refl, ap, sym, ◌∙◌, subst, arith, take_all, Result, Ok, Err}
+use Rattle.std.proofs.Common.{◌≡◌, ℕ, zero, suc, ◌*◌, ◌^◌, ◌<◌, ◌≤◌, true, false, List, [], ◌∷◌, ◌++◌, length, map, flat_map, take, drop, set, get_or, slice_index, slice_index_or, All, ℤ, pos, negsuc, ◌+ℤ◌, refl, ap, sym, ◌∙◌, subst, arith, take_all, Result, Ok, Err}
 use Rattle.std.specs.Prelude.{slice_get, Some, None}
 use Rattle.std.proofs.lemmas.Bool.Decides.{Decides-ltb}
 use Rattle.std.proofs.lemmas.Int.{ints}

@@ -1,5 +1,5 @@
 -- Weights that are made one after another, with the test of their sums.
-use Rattle.std.proofs.Common.{◌≡◌, ℕ, zero, suc, ◌+◌, ◌<◌, ◌≤◌, List, [], ◌∷◌, ◌++◌, length, flat_map, take, take_all, get_or, not, refl, ap, sym, ◌∙◌, subst, append_assoc, append-nil, arith, Result, Ok, Err, Some, None}
+use Rattle.std.proofs.Common.{◌≡◌, ℕ, ◌+◌, ◌<◌, ◌≤◌, List, [], ◌∷◌, ◌++◌, length, flat_map, take, take_all, get_or, not, refl, ap, sym, ◌∙◌, subst, append_assoc, append-nil, arith, Ok, Err, Some, None}
 use Rattle.std.specs.List.{AllZip, enumerate_from}
 use Rattle.std.specs.Ordering.{int_eq}
 use Rattle.std.proofs.lemmas.List.{take_more}
@@ -15,7 +15,6 @@ use Rattle.spd_nodes.specs.declared.forest.StoreFault.{StoreFault}
 use Rattle.spd_nodes.specs.declared.forest.StoreFault.TheVariants as Store
 use Rattle.spd_nodes.specs.Shown.{Shown, IsSound, FaultsAt, Grows, StandsFor}
 use Rattle.spd_nodes.specs.States.{Function}
-use Rattle.spd_nodes.specs.Made.{HasMade}
 use Rattle.spd_nodes.proofs.CallerLemmas.{Among, among-flat, fault-wider, has-none, has-then, stand-grow, stand-push}
 use Rattle.spd_build.specs.declared.built.BuildFault.{BuildFault}
 use Rattle.spd_build.specs.declared.built.BuildFault.TheVariants as Fault

@@ -1,6 +1,6 @@
 -- The weights of all actions and variables: the functions that are made for them, and what a call that makes some of them says.
-use Rattle.std.specs.Prelude.{◌≡◌, ℕ, suc, not, List, [], ◌∷◌, ◌++◌, length, map, flat_map, take, find, Bool, true, Option, Some, None, Result, IfOk, IfErr}
-use Rattle.std.specs.List.{AllZip, enumerate_from}
+use Rattle.std.specs.Prelude.{◌≡◌, ℕ, not, List, ◌++◌, length, map, flat_map, take, find, Bool, true, Option, Some, None, Result, IfOk, IfErr}
+use Rattle.std.specs.List.{AllZip}
 use Rattle.std.specs.Ordering.{int_eq}
 use Rattle.spd_cons_core.specs.declared.key.Entry.{Entry}
 use Rattle.spd_model.specs.declared.process.Action.{Action}

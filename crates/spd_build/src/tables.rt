@@ -1,6 +1,6 @@
 //! The weights of all actions and variables, with the test that their sums are one.
 
-ghost use Rattle.std.specs.Prelude.{◌≡◌, ℕ, ◌<◌, ◌≤◌, [], ◌∷◌, ◌++◌, length, flat_map, slice_index, true, None, IfOk, IfErr};
+ghost use Rattle.std.specs.Prelude.{◌≡◌, ℕ, ◌<◌, ◌≤◌, [], ◌∷◌, ◌++◌, length, flat_map, slice_index, sum, true, None, IfOk, IfErr};
 ghost use Rattle.std.specs.List.{AllZip};
 ghost use Rattle.spd_model.specs.Lawful.{IsAction};
 ghost use Rattle.spd_model.specs.Chances.{first_wrong_sum, sums_of};
@@ -53,6 +53,19 @@ fn number_in(leaf: Leaf) -> i128
         Leaf::Num(x) => x,
         _ => 0,
     }
+}
+
+/// The sum of variables' numbers of values.
+fn value_count(sizes: &[u8]) -> usize
+    requires { length sizes.now ≤ 100 }
+    ensures sum { result ≡ sum sizes.now }
+    ensures few { result ≤ 25500 }
+{
+    let mut count = 0;
+    for size in sizes {
+        count += *size as usize;
+    }
+    count
 }
 
 /// The weight of a variable's value: its table with the variable's next value held at this one. It is put in the last place.
@@ -238,8 +251,8 @@ pub(crate) fn all_weights<F: Forest, L: Ledger>(
     ensures adds { HoldAdds (F.shows forest.new) adds.new }
     ensures keeps { F.kept forest.new ≡ F.kept forest.old }
 {
-    let _ = forest.layout();
-    let mut weights = with_room(alloc, model.actions.as_slice().len())?;
+    let actions = model.actions.as_slice().len();
+    let mut weights = with_room(alloc, actions * value_count(forest.layout().sizes()))?;
     weigh_actions(alloc, model, forest, dds, &mut weights, adds, steps)?;
     Ok(weights)
 }

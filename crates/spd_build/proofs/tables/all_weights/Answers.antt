@@ -1,17 +1,26 @@
-use Rattle.std.proofs.Common.{◌≡◌, ◌∙◌, ℕ, List, [], Result, Ok, Err, ap, refl, sym, subst, None, IfOk, IfErr, Vec, Global}
+use Rattle.std.proofs.Common.{◌≡◌, ◌∙◌, List, [], length, arith, Result, ap, sym, subst, IfErr, Vec, Global}
 use Rattle.std.specs.List.{AllZip}
 use Rattle.spd_cons_core.specs.declared.key.Entry.{Entry}
-use Rattle.spd_model.specs.Chances.{first_wrong_sum, sums_of}
+use Rattle.spd_model.specs.Lawful.{IsLawful}
+use Rattle.spd_model.specs.States.{sizes as sizes_of}
 use Rattle.spd_model.proofs.CallerLemmas.Results.{err_is}
+use Rattle.spd_model.proofs.CallerLemmas.StateOrder.{length-sizes}
 use Rattle.spd_nodes.specs.declared.forest.StoreFault.{StoreFault}
-use Rattle.spd_nodes.specs.declared.forest.StoreFault.TheVariants as Store
 use Rattle.spd_nodes.specs.Shown.{StandsFor}
 use Rattle.spd_nodes.proofs.CallerLemmas.{has-none}
 use Rattle.spd_build.specs.declared.built.BuildFault.{BuildFault}
 use Rattle.spd_build.specs.Building.{build_fault}
-use Rattle.spd_build.specs.Functions.{all_weights}
 use Rattle.spd_build.specs.Tables.{TableCause, all_table_functions}
 use Rattle.spd_build.proofs.tables.all_weights.Goals as goal
+
+-- ---- room for all weights
+
+pub value_count-requires : goal.value_count-requires
+value_count-requires g c =
+    let law : IsLawful c.args.model.now = subst IsLawful c.model.view_is c.model.invariant in
+    let few = law.few_vars in
+    let sizes : length c.sizes.result.now ≡ length (sizes_of c.args.model.now) = ap length (c.sizes.ensures.sizes ∙ c.layout.ensures.sizes ∙ c.requires.layout) in
+    omega (arith, few, sizes, length-sizes c.args.model.now)
 
 -- ---- there was no room
 

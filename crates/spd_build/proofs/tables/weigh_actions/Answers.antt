@@ -1,4 +1,4 @@
-use Rattle.std.proofs.Common.{◌≡◌, ◌∙◌, ◌<◌, ◌≤◌, ℕ, List, length, map, flat_map, get_or, Result, Ok, Err, ap, refl, sym, subst, arith, All}
+use Rattle.std.proofs.Common.{◌≡◌, ◌∙◌, ◌<◌, ◌≤◌, ℕ, List, length, map, flat_map, get_or, Ok, Err, ap, refl, sym, subst, arith}
 use Rattle.std.specs.List.{enumerate_from}
 use Rattle.std.proofs.lemmas.List.Elements.{All-get_or}
 use Rattle.std.proofs.lemmas.List.FromFn.{length-enumerate_from}
@@ -9,7 +9,6 @@ use Rattle.spd_model.specs.Process.{Process}
 use Rattle.spd_model.proofs.CallerLemmas.Results.{err_is}
 use Rattle.spd_nodes.specs.States.{Function}
 use Rattle.spd_nodes.proofs.CallerLemmas.{stand-grow}
-use Rattle.spd_build.specs.declared.built.BuildFault.{BuildFault}
 use Rattle.spd_build.specs.Functions.{all_weights, tree_function}
 use Rattle.spd_build.specs.Tables.{MakesWeights, action_functions, action_sums, action_weights, all_table_functions}
 use Rattle.spd_build.proofs.WeighingLaws.{enumerated, flat-enumerate, weighs-all, weighs-failed, weighs-more, weighs-none}

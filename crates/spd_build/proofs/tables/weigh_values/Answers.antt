@@ -1,7 +1,5 @@
-use Rattle.std.proofs.Common.{◌≡◌, ◌+◌, ◌<◌, ◌≤◌, ◌∙◌, ℕ, List, suc, [], ◌∷◌, ◌++◌, length, map, get_or, slice_index, take_all, Result, Ok, Err, refl, ap, sym, subst, arith, add-one, All}
-use Rattle.std.specs.List.{AllZip}
+use Rattle.std.proofs.Common.{◌≡◌, ◌+◌, ◌<◌, ◌≤◌, ◌∙◌, ℕ, List, suc, length, map, get_or, slice_index, take_all, Ok, Err, ap, sym, subst, arith, add-one, All}
 use Rattle.std.proofs.lemmas.List.{length-map}
-use Rattle.spd_cons_core.specs.declared.key.Entry.{Entry}
 use Rattle.spd_model.specs.declared.tree.Tree.{Tree}
 use Rattle.spd_model.specs.Lawful.{IsLawful, Fits}
 use Rattle.spd_model.specs.Numbers.{numbers_below}
@@ -9,14 +7,12 @@ use Rattle.spd_model.specs.States.{sizes}
 use Rattle.spd_model.specs.Trees.{parts_of}
 use Rattle.spd_model.proofs.CallerLemmas.Results.{err_is}
 use Rattle.spd_model.proofs.CallerLemmas.StateOrder.{length-sizes}
-use Rattle.spd_nodes.specs.declared.forest.StoreFault.{StoreFault}
 use Rattle.spd_nodes.specs.Made.{HasMade}
 use Rattle.spd_nodes.specs.Shown.{StandsFor, MakesAmong}
-use Rattle.spd_nodes.specs.States.{Function}
-use Rattle.spd_nodes.proofs.CallerLemmas.{among-fails, grows-then, has-made, has-then, stand-length, stands-grows}
+use Rattle.spd_nodes.proofs.CallerLemmas.{among-fails, has-made, has-then, stand-length, stands-grows}
 use Rattle.spd_apply.proofs.CallerLemmas.{answers-grow}
 use Rattle.spd_build.specs.Fitting.{StandForTrees}
-use Rattle.spd_build.specs.Functions.{table_function, table_functions, tree_function, weight, weight_sum, weights_of}
+use Rattle.spd_build.specs.Functions.{table_functions, tree_function, weight, weight_sum}
 use Rattle.spd_build.specs.Tables.{StandAfter}
 use Rattle.spd_build.proofs.TableLaws.{diagram-failed, first-sum, fits-all, some-values, sum-among, sum-fits, sum-made, table-made, weight-among, weight-made, weights-more}
 use Rattle.spd_build.proofs.WeighingLaws.{after-grow, after-none, after-push}

@@ -1,8 +1,7 @@
-use Rattle.std.proofs.Common.{◌≡◌, ◌∙◌, ℕ, List, ℤ, Result, Ok, Err, Some, None, slice_index, ap, sym, subst, to_z, of_z}
+use Rattle.std.proofs.Common.{◌≡◌, ◌∙◌, ℕ, List, ℤ, Ok, Err, Some, None, slice_index, ap, sym, subst, to_z, of_z}
 use Rattle.std.proofs.lemmas.Int.{to_z-of_z}
 use Rattle.std.specs.Int.{w128}
 use borrow.Author.Rules.{sfits_of}
-use Rattle.spd_model.specs.Chances.{Sum}
 use Rattle.spd_model.specs.Lawful.{IsLawful}
 use Rattle.spd_model.specs.States.{sizes}
 use Rattle.spd_model.proofs.CallerLemmas.Results.{err_is}
@@ -14,7 +13,7 @@ use Rattle.spd_build.specs.declared.built.BuildFault.{BuildFault}
 use Rattle.spd_build.specs.declared.built.BuildFault.TheVariants as Fault
 use Rattle.spd_build.specs.Building.{HoldAdds, build_fault}
 use Rattle.spd_build.specs.Functions.{table_functions, weight_sum, weights_of}
-use Rattle.spd_build.specs.Tables.{MakesWeights, first_wrong, is_wrong, variable_sums}
+use Rattle.spd_build.specs.Tables.{MakesWeights, is_wrong, variable_sums}
 use Rattle.spd_build.proofs.PlaceLaws.{first-wrong, found-num, none-wrong}
 use Rattle.spd_build.proofs.WeighingLaws.{forest-cause}
 use Rattle.spd_build.proofs.tables.weigh_variable.Goals as goal
