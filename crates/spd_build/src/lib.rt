@@ -7,6 +7,7 @@
 
 mod built;
 mod lists;
+mod tables;
 mod trees;
 
 pub use built::{BuildFault, Built};
