@@ -36,7 +36,8 @@ back-fails e h = record { sound = h.sound; grows = h.grows; ok = tt; makes = h.m
 pub back-none : (m : Process) (a : Action) (w : List ℕ → ℤ) (s : Shown) → IsSound s → BacksUp m a w s s (Err F.Memory)
 back-none m a w s o = record { sound = o; grows = grows-none s; ok = tt; makes = makes-none s (test_trees s.sizes (backup_functions m a w)); fault = tt }
 
-number-is : (l : Leaf) → IsValue l → l ≡ Num (number_of l)
+-- a value is its number
+pub number-is : (l : Leaf) → IsValue l → l ≡ Num (number_of l)
 number-is (Num x) h = refl
 number-is (Pair x y) h = absurd h
 number-is (Act x) h = absurd h

@@ -1,3 +1,5 @@
--- For crates above: what tables hold at first, and after other calls; and that a forest that grows shows the same parts.
+-- For crates above: what tables hold at first, and after other calls; that a forest that grows shows the same parts; and that what a
+-- process was built into fits a forest over its variables.
+pub use Rattle.spd_backup.proofs.BuiltLaws.{built-rewards-fit, built-weights-fit}
 pub use Rattle.spd_backup.proofs.KeepingLaws.{all-grow}
 pub use Rattle.spd_backup.proofs.PartLaws.{thawed-grows}

@@ -19,7 +19,7 @@ use Rattle.spd_backup.specs.declared.tables.Tables.{Tables}
 use Rattle.spd_backup.specs.declared.tables.WayTables.{WayTables}
 use Rattle.spd_backup.specs.declared.tables.LastSum.{LastSum}
 use Rattle.spd_backup.specs.declared.tables.SumTables.{SumTables}
-use Rattle.spd_backup.specs.Keeping.{IsSumOf, IsSummed, HoldSums, HoldEachSum, HoldWay, HoldAdds, HoldAll, IsPrimed}
+use Rattle.spd_backup.specs.Keeping.{IsSumOf, IsSummed, HoldVariable, HoldEachSum, HoldWay, HoldAdds, HoldAll, IsPrimed}
 use Rattle.spd_nodes.proofs.CallerLemmas.{stands-grows}
 
 meaning-grows : (s t : Shown) (r : Entry) → Grows s t → s.knows r ≡ true → meaning t r ≡ meaning s r
@@ -51,7 +51,7 @@ pub last-sum-grows : (way : Way) (var : ℕ) (s t : Shown) (last : Option LastSu
 last-sum-grows way var s t None g h = tt
 last-sum-grows way var s t (Some made) g h = summed-grows way var s t made g h
 
-pub variable-grows : (way : Way) (var : ℕ) (s t : Shown) (tables : SumTables) → Grows s t → HoldSums way var s tables → HoldSums way var t tables
+pub variable-grows : (way : Way) (var : ℕ) (s t : Shown) (tables : SumTables) → Grows s t → HoldVariable way var s tables → HoldVariable way var t tables
 variable-grows way var s t tables g h = record { last = last-sum-grows way var s t tables.last g h.last; rows = sums-grow way var s t tables.rows g h.rows }
 
 pub each-grow : (way : Way) (n : ℕ) (s t : Shown) (tables : List SumTables) → Grows s t → HoldEachSum way n s tables → HoldEachSum way n t tables
@@ -108,15 +108,15 @@ all-grow n discount s t tables g h = record {
 }
 
 -- the tables of one variable were used, while the forest grew
-pub each-set : (way : Way) (n : ℕ) (s t : Shown) (tables : List SumTables) (var : ℕ) (own : SumTables) → Grows s t → HoldEachSum way n s tables → var < n → HoldSums way var t own → HoldEachSum way n t (set tables var own)
+pub each-set : (way : Way) (n : ℕ) (s t : Shown) (tables : List SumTables) (var : ℕ) (own : SumTables) → Grows s t → HoldEachSum way n s tables → var < n → HoldVariable way var t own → HoldEachSum way n t (set tables var own)
 each-set way n s t tables var own g h b k = record {
   count = length-set tables var own ∙ h.count;
   each = holds;
 }
   where
-    holds : (i : ℕ) (d : SumTables) → i < n → HoldSums way i t (get_or (set tables var own) i d)
+    holds : (i : ℕ) (d : SumTables) → i < n → HoldVariable way i t (get_or (set tables var own) i d)
     holds i d c = elim (cases_eq i var) [
-      | inl e ↦ subst (λ j. HoldSums way j t (get_or (set tables var own) j d)) (sym e) (rw (get_or-set_same tables var own d (omega (arith, b, h.count))) k)
+      | inl e ↦ subst (λ j. HoldVariable way j t (get_or (set tables var own) j d)) (sym e) (rw (get_or-set_same tables var own d (omega (arith, b, h.count))) k)
       | inr e ↦ rw (get_or-set_other tables var i own d e) (variable-grows way i s t (get_or tables i d) g (h.each i d c))
     ]
 
@@ -127,7 +127,7 @@ AreEmpty t = (t.last ≡ None) × (t.rows ≡ [])
 pub each-none : (way : Way) (n : ℕ) (s : Shown) (tables : List SumTables) → length tables ≡ n → All AreEmpty tables → HoldEachSum way n s tables
 each-none way n s tables e h = record { count = e; each = λ var d b. none var (get_or tables var d) (h var d (omega (arith, e, b))) }
   where
-    none : (var : ℕ) (t : SumTables) → AreEmpty t → HoldSums way var s t
+    none : (var : ℕ) (t : SumTables) → AreEmpty t → HoldVariable way var s t
     none var t k = record { last = subst (λ l. IfSome l (IsSummed way var s)) (sym k.0) tt; rows = sums-none way var s t.rows k.1 }
 
 -- a memo with no sums

@@ -1,8 +1,9 @@
 mod BackLaws
-mod BuiltLaws
-mod BridgeLaws
 mod BoundLaws
+mod BridgeLaws
+mod BuiltLaws
 mod CallerLemmas
+mod FreeLaws
 mod KeepingLaws
 mod PartLaws
 mod Rows

@@ -11,6 +11,7 @@ use Rattle.spd_model.specs.Process.{Process}
 use Rattle.spd_nodes.specs.declared.leaf.Leaf.TheVariants.{Num}
 use Rattle.spd_weigh.specs.declared.way.Way.TheVariants.{Down, Up}
 use Rattle.spd_backup.specs.Expected.{expected, bound, backup_functions}
+use Rattle.spd_backup.specs.FromBuilt.{process_functions}
 use Rattle.spd_backup.specs.Thawing.{weights_in}
 
 abbrev leaf : ℕ → Tree
@@ -53,6 +54,10 @@ high-second = refl
 -- the primed value; and each way three functions for each of three values, their sum, the discounted one and the bound
 all-functions : length (backup_functions throwing mix first_value) ≡ 25
 all-functions = refl
+
+-- the functions of thawing it: three weights, and the reward
+parts-of-all : length (process_functions throwing) ≡ 4
+parts-of-all = refl
 
 -- of two actions' weights of variables with two and three values, those of the second action's second variable
 second-weights : map (λ (r : Entry). r.0) (weights_in (2 ∷ 3 ∷ []) (map (λ n. record { 0 = n }) (numbers_below 10)) 1 1) ≡ 7 ∷ 8 ∷ 9 ∷ []

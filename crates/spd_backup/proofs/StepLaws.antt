@@ -1,9 +1,8 @@
 -- An expectation with one variable more summed out.
-use Rattle.std.proofs.Common.{◌≡◌, ℕ, zero, suc, ◌+◌, ◌<◌, List, [], ◌∷◌, ◌++◌, length, map, flat_map, get_or, refl, sym, ◌∙◌, ap, subst, arith, inl, inr, true, All, ℤ, Result, Ok, Err, IfOk}
+use Rattle.std.proofs.Common.{◌≡◌, ℕ, zero, suc, ◌+◌, ◌<◌, List, [], ◌∷◌, ◌++◌, length, map, flat_map, get_or, refl, sym, ◌∙◌, ap, subst, arith, inl, inr, true, ℤ, Result, Ok, Err, IfOk}
 use Rattle.std.specs.List.{AllZip}
 use Rattle.std.proofs.lemmas.Bool.{cases_lt}
 use Rattle.std.proofs.lemmas.List.{length-map}
-use Rattle.std.proofs.lemmas.List.Elements.{All-nil, All-cons}
 use Rattle.spd_cons_core.specs.declared.key.Entry.{Entry}
 use Rattle.spd_model.specs.declared.process.Action.{Action}
 use Rattle.spd_model.specs.Process.{Process}
@@ -12,9 +11,8 @@ use Rattle.spd_model.specs.States.{sizes}
 use Rattle.spd_model.proofs.CallerLemmas.StateOrder.{length-sizes}
 use Rattle.spd_nodes.specs.declared.forest.StoreFault.{StoreFault}
 use Rattle.spd_nodes.specs.declared.leaf.Leaf.TheVariants.{Num}
-use Rattle.spd_nodes.specs.Shown.{Shown, IsSound, IsWhole, Grows, StandsFor, MakesAmong, MakesDiagram, meaning}
+use Rattle.spd_nodes.specs.Shown.{Shown, IsSound, Grows, StandsFor, MakesAmong, MakesDiagram, meaning}
 use Rattle.spd_nodes.specs.States.{Function, Agree}
-use Rattle.spd_gather.specs.Lists.{AreKnown}
 use Rattle.spd_restrict.specs.Chosen.{function_at}
 use Rattle.spd_restrict.specs.Restricted.{restricted}
 use Rattle.spd_weigh.specs.declared.way.Way.{Way}
@@ -26,7 +24,7 @@ use Rattle.spd_backup.specs.declared.tables.SumTables.{SumTables}
 use Rattle.spd_backup.specs.declared.thawed.Thawed.{Thawed}
 use Rattle.spd_build.specs.Functions.{weights_of}
 use Rattle.spd_backup.specs.Expected.{next_value, expected, bound, bound_functions, backup_functions, AreExpected}
-use Rattle.spd_backup.specs.Keeping.{HoldSums}
+use Rattle.spd_backup.specs.Keeping.{HoldVariable}
 use Rattle.spd_backup.specs.Thawing.{weights_in, HasAction}
 use Rattle.spd_backup.specs.Making.{Follows, MakesFirst, CanSumOut}
 use Rattle.spd_backup.proofs.BridgeLaws.{summed-agrees, summed-expected, zip-agrees, weight-at, are-weights, has-values}
@@ -114,7 +112,7 @@ module _ (way : Way) (m : Process) (a : Action) (w : List ℕ → ℤ) (s : Show
   same-weights : (v : ℕ) → v < length (weights_of m a var) → Agree t.sizes (function_at (map (meaning t) ws) v) (function_at (weights_of m a var) v)
   same-weights = zip-agrees t ws (weights_of m a var) zipped
 
-  pub can-sum-out : (tables : SumTables) → HoldSums way var t tables → CanSumOut way t x e k var tables
+  pub can-sum-out : (tables : SumTables) → HoldVariable way var t tables → CanSumOut way t x e k var tables
   can-sum-out tables held = record {
     few = (let own : length x.sizes.items ≡ length (sizes m) = ap length f.has.thawed.own in omega (arith, own, length-sizes m, f.has.thawed.law.few_vars));
     var_in = b;

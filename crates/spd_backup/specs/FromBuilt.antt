@@ -1,13 +1,11 @@
 -- A built process as diagrams of a forest.
-use Rattle.std.specs.Prelude.{◌≡◌, ℕ, List, ◌++◌, map, Result, IfOk, All}
+use Rattle.std.specs.Prelude.{◌≡◌, List, ◌++◌, map, Result, IfOk}
 use Rattle.std.specs.List.{AllZip}
 use Rattle.spd_model.specs.Process.{Process}
 use Rattle.spd_nodes.specs.declared.forest.StoreFault.{StoreFault}
-use Rattle.spd_nodes.specs.Levels.{slots}
 use Rattle.spd_nodes.specs.Made.{MakesAll}
 use Rattle.spd_nodes.specs.Shown.{Shown, StandsFor}
 use Rattle.spd_nodes.specs.States.{Function}
-use Rattle.spd_frozen.specs.Fits.{FitsSizes}
 use Rattle.spd_frozen.specs.Thawing.{frozen_function, mixed_function}
 use Rattle.spd_build.specs.declared.built.Built.{Built}
 use Rattle.spd_build.specs.Functions.{all_weights, reward}

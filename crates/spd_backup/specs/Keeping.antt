@@ -30,14 +30,14 @@ pub record IsSummed (way : Way) (var : ℕ) (s : Shown) (made : LastSum) : Type 
   pub stands : StandsFor s made.sum (summed_out way var (map (meaning s) made.weights.items) (meaning s made.of))
 
 -- the tables of one variable: what was summed out last, and answers of such sums alone
-pub record HoldSums (way : Way) (var : ℕ) (s : Shown) (t : SumTables) : Type 0 where
+pub record HoldVariable (way : Way) (var : ℕ) (s : Shown) (t : SumTables) : Type 0 where
   pub last : IfSome t.last (IsSummed way var s)
   pub rows : HoldsSums way var s t.rows
 
 -- tables for each of so many variables
 pub record HoldEachSum (way : Way) (n : ℕ) (s : Shown) (tables : List SumTables) : Type 0 where
   pub count : length tables ≡ n
-  pub each : (var : ℕ) (d : SumTables) → var < n → HoldSums way var s (slice_index_or tables var d)
+  pub each : (var : ℕ) (d : SumTables) → var < n → HoldVariable way var s (slice_index_or tables var d)
 
 -- the tables of one way of rounding, for so many variables and a discount
 pub record HoldWay (way : Way) (n discount : ℕ) (s : Shown) (t : WayTables) : Type 0 where

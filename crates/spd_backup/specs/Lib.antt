@@ -3,3 +3,4 @@ pub mod Thawing
 pub mod FromBuilt
 pub mod Keeping
 pub mod Making
+pub mod Free

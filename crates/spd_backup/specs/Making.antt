@@ -14,7 +14,7 @@ use Rattle.spd_weigh.specs.Weighing.{AreWeights}
 use Rattle.spd_backup.specs.declared.tables.SumTables.{SumTables}
 use Rattle.spd_backup.specs.declared.thawed.Thawed.{Thawed}
 use Rattle.spd_backup.specs.Expected.{next_value, expected, bound, backup_functions, AreExpected}
-use Rattle.spd_backup.specs.Keeping.{HoldSums}
+use Rattle.spd_backup.specs.Keeping.{HoldVariable}
 use Rattle.spd_backup.specs.Thawing.{weights_in, HasAction}
 
 -- an action is backed up where a value within limits follows, whose primed diagram is there
@@ -56,4 +56,4 @@ pub record CanSumOut (way : Way) (s : Shown) (x : Thawed) (e : Entry) (action va
   pub count : length (weights_in x.sizes.items x.weights.items action var) ≡ slice_index s.sizes var
   pub weights : AreWeights s.sizes var (map (meaning s) (weights_in x.sizes.items x.weights.items action var))
   pub values : HasValues s.sizes (meaning s e)
-  pub held : HoldSums way var s tables
+  pub held : HoldVariable way var s tables

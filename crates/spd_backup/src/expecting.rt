@@ -6,14 +6,15 @@ ghost use Rattle.spd_model.specs.declared.process.Action.{Action};
 ghost use Rattle.spd_nodes.specs.Shown.{Shown, MakesDiagram, meaning};
 ghost use Rattle.spd_weigh.specs.Weighing.{summed_out};
 ghost use Rattle.spd_backup.specs.Thawing.{weights_in};
-ghost use Rattle.spd_backup.specs.Keeping.{HoldSums, HoldEachSum};
+ghost use Rattle.spd_backup.specs.Keeping.{HoldVariable, HoldEachSum};
 ghost use Rattle.spd_backup.specs.Making.{IsFollowed, Follows, MakesExpected, CanSumOut};
 
+use crate::free::sum_or_keep;
 use crate::tables::{SumTables, kept_sum, last_sum};
 use crate::thawed::{Thawed, weights_of};
 use spd_apply::OpFault;
 use spd_nodes::{Forest, Ref, Steps};
-use spd_weigh::{Way, sum_out_with};
+use spd_weigh::Way;
 use std::alloc::Global;
 use std::sync::ledger::Ledger;
 
@@ -32,14 +33,14 @@ fn sum_variable<F: Forest, L: Ledger>(
     requires { CanSumOut way (F.shows forest.old) thawed.now expected action var tables.old }
     ensures made { MakesDiagram (F.shows forest.old) (F.shows forest.new) (summed_out way var (map (meaning (F.shows forest.old)) (weights_in thawed.now.sizes.items thawed.now.weights.items action var)) (meaning (F.shows forest.old) expected)) result }
     ensures keeps { F.kept forest.new ≡ F.kept forest.old }
-    ensures tables { HoldSums way var (F.shows forest.new) tables.new }
+    ensures tables { HoldVariable way var (F.shows forest.new) tables.new }
 {
     let _ = forest.layout();
     let weights = weights_of(thawed, action, var);
     if let Some(sum) = last_sum(&tables.last, expected, weights) {
         return Ok(sum);
     }
-    let sum = sum_out_with(
+    let sum = sum_or_keep(
         alloc,
         forest,
         expected,

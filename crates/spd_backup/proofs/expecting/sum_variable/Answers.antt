@@ -1,5 +1,5 @@
-use Rattle.std.proofs.Common.{[], ◌∷◌, map, refl, sym, subst, ◌∙◌}
-use Rattle.spd_nodes.specs.Shown.{MakesDiagram, StandsFor, meaning}
+use Rattle.std.proofs.Common.{[], ◌∷◌, map, refl, sym, subst}
+use Rattle.spd_nodes.specs.Shown.{MakesDiagram, meaning}
 use Rattle.spd_nodes.proofs.CallerLemmas.{makes_among-known}
 use Rattle.spd_weigh.specs.Weighing.{summed_out}
 use Rattle.spd_model.proofs.CallerLemmas.Results.{err_is}
@@ -28,8 +28,8 @@ returns-in-Some-clause-tables g c = c.requires.held
 
 -- ---- what is summed out now
 
-pub sum_out_with-requires : goal.sum_out_with-requires
-sum_out_with-requires g c =
+pub sum_or_keep-requires : goal.sum_or_keep-requires
+sum_or_keep-requires g c =
     let k = c.requires in
     record {
       known = k.known;
@@ -47,27 +47,27 @@ pub returns-in_err-sum-clause-made : goal.returns-in_err-sum-clause-made
 returns-in_err-sum-clause-made g c =
     let s = g.F.Forest.shows c.args.forest.now in
     let ws = weights_in c.args.thawed.now.sizes.items c.args.thawed.now.weights.items c.args.action c.args.var in
-    subst (MakesDiagram s (g.F.Forest.shows c.sum_out_with.new.forest) (summed_out c.args.way c.args.var (map (meaning s) ws) (meaning s c.args.expected)))
+    subst (MakesDiagram s (g.F.Forest.shows c.sum_or_keep.new.forest) (summed_out c.args.way c.args.var (map (meaning s) ws) (meaning s c.args.expected)))
     (sym (err_is c.from_residual.result c.in_err-sum.field-0.0 c.from_residual.ensures.1)) (rw c.weights_of-weights.ensures at c.in_err-sum.ensures.made)
 
 pub returns-in_err-sum-clause-keeps : goal.returns-in_err-sum-clause-keeps
-returns-in_err-sum-clause-keeps g c = c.sum_out_with.ensures.keeps
+returns-in_err-sum-clause-keeps g c = c.sum_or_keep.ensures.keeps
 
 pub returns-in_err-sum-clause-tables : goal.returns-in_err-sum-clause-tables
 returns-in_err-sum-clause-tables g c = record {
-  last = last-sum-grows c.args.way c.args.var (g.F.Forest.shows c.args.forest.now) (g.F.Forest.shows c.sum_out_with.new.forest) c.args.tables.now.last c.in_err-sum.ensures.made.grows c.requires.held.last;
-  rows = c.sum_out_with.ensures.table;
+  last = last-sum-grows c.args.way c.args.var (g.F.Forest.shows c.args.forest.now) (g.F.Forest.shows c.sum_or_keep.new.forest) c.args.tables.now.last c.in_err-sum.ensures.made.grows c.requires.held.last;
+  rows = c.sum_or_keep.ensures.table;
 }
 
 pub returns-clause-made : goal.returns-clause-made
 returns-clause-made g c = rw c.weights_of-weights.ensures at c.in_ok-sum.ensures.made
 
 pub returns-clause-keeps : goal.returns-clause-keeps
-returns-clause-keeps g c = c.sum_out_with.ensures.keeps
+returns-clause-keeps g c = c.sum_or_keep.ensures.keeps
 
 pub returns-clause-tables : goal.returns-clause-tables
 returns-clause-tables g c = record {
-  last = sum-kept c.args.way c.args.var (g.F.Forest.shows c.args.forest.now) (g.F.Forest.shows c.sum_out_with.new.forest) c.args.expected c.weights_of-weights.result.now c.in_ok-sum.sum c.kept_sum.result c.requires.known
+  last = sum-kept c.args.way c.args.var (g.F.Forest.shows c.args.forest.now) (g.F.Forest.shows c.sum_or_keep.new.forest) c.args.expected c.weights_of-weights.result.now c.in_ok-sum.sum c.kept_sum.result c.requires.known
       (rw c.weights_of-weights.ensures c.requires.weights_known) c.in_ok-sum.ensures.made c.kept_sum.ensures;
-  rows = c.sum_out_with.ensures.table;
+  rows = c.sum_or_keep.ensures.table;
 }

@@ -1,4 +1,4 @@
-use Rattle.std.proofs.Common.{◌≡◌, List, length, All}
+use Rattle.std.proofs.Common.{◌≡◌, length, All}
 use Rattle.spd_backup.proofs.KeepingLaws.{AreEmpty}
 use Rattle.spd_backup.proofs.tables.sum_tables.Given as goal
 

@@ -1,7 +1,5 @@
-use Rattle.std.proofs.Common.{◌∙◌, sym, subst, refl, Ok, Err, IfOk}
-use Rattle.std.specs.List.{AllZip}
+use Rattle.std.proofs.Common.{◌∙◌, sym, subst, refl, IfOk}
 use Rattle.spd_nodes.specs.Made.{MakesAll}
-use Rattle.spd_nodes.specs.Shown.{StandsFor}
 use Rattle.spd_nodes.proofs.CallerLemmas.{stand-grow}
 use Rattle.spd_model.proofs.CallerLemmas.Results.{err_is}
 use Rattle.spd_backup.specs.declared.thawed.Thawed.{Thawed}

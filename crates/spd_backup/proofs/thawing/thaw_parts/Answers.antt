@@ -1,10 +1,9 @@
-use Rattle.std.proofs.Common.{rules, ◌≡◌, ◌<◌, ◌≤◌, ◌∙◌, List, ℕ, length, map, take, arith, sym, ap, subst, Ok, Err, Vec, Global, All}
+use Rattle.std.proofs.Common.{rules, ◌≡◌, ◌<◌, ◌∙◌, List, ℕ, length, map, take, arith, sym, subst, Err, Vec, Global, All}
 use Rattle.std.specs.List.{AllZip}
 use Rattle.std.proofs.lemmas.List.{length-map, take_all}
 use Rattle.spd_cons_core.specs.declared.key.Entry.{Entry}
 use Rattle.spd_nodes.specs.Made.{MakesAll}
 use Rattle.spd_nodes.specs.Shown.{StandsFor}
-use Rattle.spd_nodes.specs.States.{Function}
 use Rattle.spd_nodes.proofs.CallerLemmas.{all-out, has-made, has-none, has-then, part-failed}
 use Rattle.spd_backup.proofs.BuiltLaws.{among-at, stand-next}
 use Rattle.spd_backup.proofs.thawing.thaw_parts.Goals as goal
