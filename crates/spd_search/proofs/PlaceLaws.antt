@@ -104,6 +104,17 @@ found-by-state sizes wants f q entry made positive is test =
     none : [] ≡ drop (length sizes) sizes
     none = sym (drop_of_length-le sizes (omega arith))
 
+same-list : {X : Type 0} (xs : List X) → xs ≡ map (λ x. x) xs
+same-list [] = refl
+same-list (x ∷ xs) = ap (λ ys. x ∷ ys) (same-list xs)
+
+-- and the first state itself that passes
+pub found-state : (sizes : List ℕ) (wants : Leaf → Bool) (f : Function) (q : List ℕ → Bool) → All (λ d. 0 < d) sizes
+    → ((s t : List ℕ) → IsState sizes s → IsState sizes t → q s ≡ wants (f s t))
+    → find q (states sizes) ≡ option_map (λ x. x.state) (first_found sizes wants f)
+found-state sizes wants f q positive test =
+    ap (find q) (same-list (states sizes)) ∙ found-by-state sizes wants f q (λ s. s) (λ x. x.state) positive (λ s t i j. refl) test
+
 -- ---- what an answer says of the function
 
 unpaired : {X Y : Type 0} (k : X → Y) (o : Option X) → option_map k o ≡ None → o ≡ None
