@@ -28,6 +28,8 @@ mod reading;
 #[cfg(test)]
 mod restrictions;
 #[cfg(test)]
+mod searching;
+#[cfg(test)]
 mod tables;
 #[cfg(test)]
 mod weighing;

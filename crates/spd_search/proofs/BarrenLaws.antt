@@ -1,6 +1,5 @@
 -- What is kept of entries below which nothing was found.
-use Rattle.std.proofs.Common.{◌≡◌, ◌⊎◌, ℕ, Bool, inl, inr, Option, Some, None, List, refl, subst, sym, ap, ◌∙◌}
-use Rattle.std.specs.Prelude.{Contains}
+use Rattle.std.proofs.Common.{◌≡◌, ℕ, Bool, inl, inr, Option, None, List, sym, ap, ◌∙◌}
 use Rattle.std.specs.Option.{option_or}
 use Rattle.spd_cons_core.specs.declared.key.Entry.{Entry}
 use Rattle.spd_nodes.specs.declared.leaf.Leaf.{Leaf}

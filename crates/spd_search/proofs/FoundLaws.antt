@@ -1,24 +1,23 @@
 -- What is found along a diagram is the first pair of states of its function.
-use Rattle.std.proofs.Common.{◌≡◌, ℕ, zero, suc, ◌+◌, ◌-◌, ◌<◌, ◌≤◌, Bool, true, false, cond, List, [], ◌∷◌, ◌++◌, length, get_or, drop, map, flat_map, find, Option, Some, None, refl, sym, ◌∙◌, ap, subst, arith}
+use Rattle.std.proofs.Common.{◌≡◌, ℕ, suc, ◌-◌, ◌<◌, Bool, true, false, cond, List, [], ◌∷◌, ◌++◌, length, get_or, take, drop, map, flat_map, find, Option, Some, None, refl, sym, ◌∙◌, ap, subst, arith}
 use Rattle.std.specs.Prelude.{option_map}
 use Rattle.std.specs.Option.{is_some, option_or, option_and_then}
-use Rattle.std.proofs.Math.Seq.{drop-cons}
+use Rattle.std.proofs.Math.Seq.{drop-cons, take-append_seam}
 use Rattle.std.proofs.lemmas.List.{length-append}
 use Rattle.std.proofs.Math.ListN.{drop_of_length-le}
 use Rattle.std.proofs.lemmas.List.Folds.{find-append}
 use Rattle.spd_model.specs.States.{states, IsState}
 use Rattle.spd_nodes.specs.declared.leaf.Leaf.{Leaf}
 use Rattle.spd_nodes.specs.Levels.{slots, AllPositive}
-use Rattle.spd_nodes.specs.States.{Function, function_of, point}
-use Rattle.spd_nodes.specs.Trees.{Tree, IsReduced, IsFrom, value_at, tree_of}
-use Rattle.spd_nodes.proofs.CallerLemmas.{tree_of-value_at}
+use Rattle.spd_nodes.specs.States.{Function, function_of}
+use Rattle.spd_nodes.specs.Trees.{Tree, value_at, tree_of}
 use Rattle.spd_search.specs.declared.found.Found.{Found}
 use Rattle.spd_search.specs.Found.{found_at, first_found}
 use Rattle.spd_search.specs.inner.Looking.{leaf_in, leaf_under}
 use Rattle.spd_search.specs.inner.Settling.{AreFirst, Settles}
-use Rattle.spd_search.proofs.Firsts.{first_state, find-states, first_state-agree, any_below, any_below-some}
+use Rattle.spd_search.proofs.Firsts.{first_state, find-states, first_state-agree, any_below-some}
 use Rattle.spd_search.proofs.SeekLaws.{seek, leaf_in-seek, leaf_under-seek, seek-state}
-use Rattle.spd_search.proofs.WalkLaws.{Splits, splits-seek, Walks, walks-start, walks-next, walks-end, no-state, first-push, first-state, splits-at}
+use Rattle.spd_search.proofs.WalkLaws.{splits-seek, Walks, walks-start, walks-next, walks-end, no-state, first-push, first-state, splits-at}
 
 -- ---- lists
 
@@ -96,9 +95,9 @@ module _ (sizes : List ℕ) (wants : Leaf → Bool) (tree : Tree) (o : AllPositi
       ∙ e)
 
   -- no leaf that is wanted, at no state
-  pub found-nowhere : leaf_in wants tree ≡ None → None ≡ first_found sizes wants (function_of sizes tree)
-  found-nowhere h =
-      let none : finds sizes wants tree [] ≡ false = ap is_some (sym all-seek ∙ h) in
+  pub found-nowhere : (found : Option Leaf) → found ≡ leaf_in wants tree → found ≡ None → None ≡ first_found sizes wants (function_of sizes tree)
+  found-nowhere found e h =
+      let none : finds sizes wants tree [] ≡ false = ap is_some (sym all-seek ∙ sym e ∙ h) in
       sym (found-by None (no-state sizes (finds sizes wants tree) (splits-seek wants sizes (value_at (slots sizes) 0 tree)) none))
 
   pub along-start : (leaf : Leaf) → leaf_in wants tree ≡ Some leaf → Along sizes wants tree [] leaf
@@ -132,14 +131,16 @@ module _ (sizes : List ℕ) (wants : Leaf → Bool) (tree : Tree) (o : AllPositi
           let f : AreFirst sizes (first ++ j ∷ []) = first-push sizes first j a.given h (omega (arith, s.within)) in
           ap is_some (sym (look-seek (first ++ j ∷ []) f) ∙ s.before j i)
 
-  pub along-end : (first : List ℕ) (leaf : Leaf) → Along sizes wants tree first leaf → length first ≡ length sizes → Some (record { state = first; leaf = leaf }) ≡ first_found sizes wants (function_of sizes tree)
-  along-end first leaf a h =
-      let state : IsState sizes first = first-state sizes first a.given h in
+  pub along-end : (state kept first : List ℕ) (leaf : Leaf) → state ≡ kept → kept ≡ first → Along sizes wants tree first leaf → length first ≡ length sizes
+      → Some (record { state = state; leaf = leaf }) ≡ first_found sizes wants (function_of sizes tree)
+  along-end state kept first leaf i j a h =
+      let is_state : IsState sizes first = first-state sizes first a.given h in
       let none : drop (length first) sizes ≡ [] = drop_of_length-le sizes (omega arith) in
       let found : finds sizes wants tree first ≡ true = ap is_some (sym (look-seek first a.given) ∙ a.here) in
       let walks : Walks sizes (finds sizes wants tree) first [] = rw none at a.walks in
-      let at : find wants (map (λ t. function_of sizes tree first t) (states sizes)) ≡ Some leaf = sym (seek-state wants sizes first (value_at (slots sizes) 0 tree) state) ∙ sym (look-seek first a.given) ∙ a.here in
-      sym (found-by (Some first) (walks-end sizes (finds sizes wants tree) first walks found) ∙ ap (option_map (λ a. record { state = first; leaf = a })) at)
+      let at : find wants (map (λ t. function_of sizes tree first t) (states sizes)) ≡ Some leaf = sym (seek-state wants sizes first (value_at (slots sizes) 0 tree) is_state) ∙ sym (look-seek first a.given) ∙ a.here in
+      let same : state ≡ first = i ∙ j in
+      rw same (sym (found-by (Some first) (walks-end sizes (finds sizes wants tree) first walks found) ∙ ap (option_map (λ a. record { state = first; leaf = a })) at))
 
   -- with a leaf below the values so far there is one below them with some value more
   pub some-value : (first : List ℕ) → AreFirst sizes first → length first < length sizes → is_some (leaf_under sizes wants first tree) ≡ true
@@ -148,3 +149,14 @@ module _ (sizes : List ℕ) (wants : Leaf → Bool) (tree : Tree) (o : AllPositi
       any_below-some (get_or sizes (length first) 0) (λ v. finds sizes wants tree (first ++ v ∷ []))
       (sym (splits-at sizes (finds sizes wants tree) first (splits-seek wants sizes (value_at (slots sizes) 0 tree)) h) ∙ ap is_some (sym (look-seek first f)) ∙ e)
       (λ v i. ap is_some (sym (look-seek (first ++ v ∷ []) (first-push sizes first v f h i)) ∙ none v i))
+
+-- nothing at a value more, which was pushed
+pub none-here : (sizes : List ℕ) (wants : Leaf → Bool) (tree : Tree) (looked pushed new : List ℕ) (found : Option Leaf) → looked ≡ pushed → pushed ≡ new → found ≡ leaf_under sizes wants looked tree
+    → found ≡ None → leaf_under sizes wants new tree ≡ None
+none-here sizes wants tree looked pushed new found a b e none = ap (λ (l : List ℕ). leaf_under sizes wants l tree) (sym (a ∙ b)) ∙ sym e ∙ none
+
+-- a value that was pushed and popped
+pub popped : (old pushed new : List ℕ) (v n : ℕ) → pushed ≡ old ++ v ∷ [] → n ≡ length pushed → new ≡ take (n - 1) pushed → new ≡ old
+popped old pushed new v n p e t =
+    let count : n - 1 ≡ length old = omega (arith, ap length p, length-append old (v ∷ [])) in
+    t ∙ ap (λ (k : ℕ). take k pushed) count ∙ ap (take (length old)) p ∙ take-append_seam old (v ∷ [])

@@ -1,18 +1,20 @@
 -- The first leaf that is wanted as the first entry of other lists by states.
-use Rattle.std.proofs.Common.{◌≡◌, ℕ, zero, suc, ◌+◌, ◌-◌, ◌<◌, ◌≤◌, Bool, true, false, cond, List, [], ◌∷◌, ◌++◌, All, length, drop, map, flat_map, find, Option, Some, None, refl, sym, ◌∙◌, ap, subst, arith}
+use Rattle.std.proofs.Common.{◌≡◌, ℕ, zero, suc, ◌<◌, Bool, true, false, cond, List, [], ◌∷◌, ◌++◌, All, length, drop, map, flat_map, find, Option, Some, None, unwrap_or, refl, sym, ◌∙◌, ap, subst, arith}
 use Rattle.std.specs.Prelude.{option_map}
 use Rattle.std.specs.Option.{option_or}
 use Rattle.std.proofs.lemmas.List.Concat.{flat_map_single}
-use Rattle.std.proofs.lemmas.List.Elements.{All-head, All-tail}
+use Rattle.std.proofs.lemmas.List.Elements.{All-head, All-tail, All-map}
 use Rattle.std.proofs.lemmas.List.Folds.{find-append}
 use Rattle.std.proofs.Math.ListN.{drop_of_length-le}
 use Rattle.spd_model.specs.Numbers.{numbers_below}
 use Rattle.spd_model.specs.States.{states, IsState}
-use Rattle.spd_model.proofs.CallerLemmas.StateOrder.{All-states}
+use Rattle.spd_model.proofs.CallerLemmas.Finds.{find_none, find_passes, All-find}
+use Rattle.spd_model.proofs.CallerLemmas.Lists.{All-flat_map, All-flat_map_back, All-map_back}
+use Rattle.spd_model.proofs.CallerLemmas.StateOrder.{All-states, All-states_back}
 use Rattle.spd_nodes.specs.declared.leaf.Leaf.{Leaf}
 use Rattle.spd_nodes.specs.States.{Function}
 use Rattle.spd_search.specs.declared.found.Found.{Found}
-use Rattle.spd_search.specs.Found.{found_at, first_found}
+use Rattle.spd_search.specs.Found.{state_pairs, first_pair, found_at, first_found}
 use Rattle.spd_search.proofs.Firsts.{option_or-same, first_below, find-rows}
 
 -- ---- the first variables are no matter
@@ -101,3 +103,60 @@ found-by-state sizes wants f q entry made positive is test =
   where
     none : [] ≡ drop (length sizes) sizes
     none = sym (drop_of_length-le sizes (omega arith))
+
+same-list : {X : Type 0} (xs : List X) → xs ≡ map (λ x. x) xs
+same-list [] = refl
+same-list (x ∷ xs) = ap (λ ys. x ∷ ys) (same-list xs)
+
+-- and the first state itself that passes
+pub found-state : (sizes : List ℕ) (wants : Leaf → Bool) (f : Function) (q : List ℕ → Bool) → All (λ d. 0 < d) sizes
+    → ((s t : List ℕ) → IsState sizes s → IsState sizes t → q s ≡ wants (f s t))
+    → find q (states sizes) ≡ option_map (λ x. x.state) (first_found sizes wants f)
+found-state sizes wants f q positive test =
+    ap (find q) (same-list (states sizes)) ∙ found-by-state sizes wants f q (λ s. s) (λ x. x.state) positive (λ s t i j. refl) test
+
+-- ---- what an answer says of the function
+
+unpaired : {X Y : Type 0} (k : X → Y) (o : Option X) → option_map k o ≡ None → o ≡ None
+unpaired k None e = refl
+unpaired k (Some x) e = absurd (cc e)
+
+-- where nothing was found, no leaf is wanted
+pub found-none : (sizes : List ℕ) (wants : Leaf → Bool) (f : Function) → first_found sizes wants f ≡ None → (s t : List ℕ) → IsState sizes s → IsState sizes t → wants (f s t) ≡ false
+found-none sizes wants f none s t i j =
+    let fails : All (λ (p : List ℕ × List ℕ). wants (f p.0 p.1) ≡ false) (state_pairs sizes) =
+    find_none (λ (p : List ℕ × List ℕ). wants (f p.0 p.1)) (state_pairs sizes) (unpaired (found_at f) (first_pair sizes wants f) none) in
+    let rows : All (λ (s : List ℕ). All (λ (p : List ℕ × List ℕ). wants (f p.0 p.1) ≡ false) (map (λ (t : List ℕ). (s, t)) (states sizes))) (states sizes) =
+    All-flat_map_back (λ (p : List ℕ × List ℕ). wants (f p.0 p.1) ≡ false) (λ (s : List ℕ). map (λ (t : List ℕ). (s, t)) (states sizes)) (states sizes) fails in
+    let row : All (λ (p : List ℕ × List ℕ). wants (f p.0 p.1) ≡ false) (map (λ (t : List ℕ). (s, t)) (states sizes)) =
+    All-states_back (λ (s : List ℕ). All (λ (p : List ℕ × List ℕ). wants (f p.0 p.1) ≡ false) (map (λ (t : List ℕ). (s, t)) (states sizes))) sizes rows s i in
+    All-states_back (λ (t : List ℕ). wants (f s t) ≡ false) sizes (All-map_back (λ (p : List ℕ × List ℕ). wants (f p.0 p.1) ≡ false) (λ (t : List ℕ). (s, t)) (states sizes) row) t j
+
+-- What was found is a present state with a leaf that is wanted, which is the function's at some next state.
+pub record IsFound (sizes : List ℕ) (wants : Leaf → Bool) (f : Function) (found : Found) : Type 0 where
+  pub state : IsState sizes found.state
+  pub next : List ℕ
+  pub next_is : IsState sizes next
+  pub leaf : f found.state next ≡ found.leaf
+  pub wanted : wants found.leaf ≡ true
+
+record IsPair (sizes : List ℕ) (p : List ℕ × List ℕ) : Type 0 where
+  present : IsState sizes p.0
+  next : IsState sizes p.1
+
+pairs-are : (sizes : List ℕ) → All (IsPair sizes) (state_pairs sizes)
+pairs-are sizes =
+    All-flat_map (IsPair sizes) (λ (s : List ℕ). map (λ (t : List ℕ). (s, t)) (states sizes)) (states sizes)
+    (All-states (λ (s : List ℕ). All (IsPair sizes) (map (λ (t : List ℕ). (s, t)) (states sizes))) sizes
+    (λ s i. All-map (IsPair sizes) (λ (t : List ℕ). (s, t)) (states sizes) (All-states (λ (t : List ℕ). IsPair sizes (s, t)) sizes (λ t j. record { present = i; next = j }))))
+
+pub found-is : (sizes : List ℕ) (wants : Leaf → Bool) (f : Function) (found : Found) → first_found sizes wants f ≡ Some found → IsFound sizes wants f found
+found-is sizes wants f found e = go (first_pair sizes wants f) refl e
+  where
+    go : (o : Option (List ℕ × List ℕ)) → first_pair sizes wants f ≡ o → option_map (found_at f) o ≡ Some found → IsFound sizes wants f found
+    go None h is = absurd (cc is)
+    go (Some p) h is =
+        let pair : IsPair sizes p = All-find (IsPair sizes) (λ (p : List ℕ × List ℕ). wants (f p.0 p.1)) (state_pairs sizes) p (pairs-are sizes) h in
+        let passes : wants (f p.0 p.1) ≡ true = find_passes (λ (p : List ℕ × List ℕ). wants (f p.0 p.1)) (state_pairs sizes) p h in
+        let same : found_at f p ≡ found = ap (λ (o : Option Found). unwrap_or o found) is in
+        subst (λ (x : Found). IsFound sizes wants f x) same (record { state = pair.present; next = p.1; next_is = pair.next; leaf = refl; wanted = passes })

@@ -1,5 +1,5 @@
 -- The first state with a leaf that is wanted, computed on small functions by hand.
-use Rattle.std.proofs.Common.{◌≡◌, ℕ, ◌*◌, ◌||◌, List, [], ◌∷◌, Option, Some, None, refl}
+use Rattle.std.proofs.Common.{◌≡◌, ℕ, ◌*◌, ◌||◌, List, [], ◌∷◌, Some, None, refl}
 use Rattle.spd_model.specs.States.{rank}
 use Rattle.spd_nodes.specs.declared.leaf.Leaf.TheVariants.{Act}
 use Rattle.spd_nodes.specs.States.{Function}

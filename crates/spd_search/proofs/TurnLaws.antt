@@ -2,9 +2,8 @@
 use Rattle.std.proofs.Common.{◌≡◌, ℕ, zero, suc, ◌+◌, ◌-◌, ◌*◌, ◌<◌, ◌≤◌, ◌==◌, Bool, true, false, cond, List, [], ◌∷◌, length, get_or, take, refl, arith}
 use Rattle.std.specs.Prelude.{nat_lt}
 use Rattle.std.proofs.lemmas.Bool.Decides.{nat_tests}
-use Rattle.spd_nodes.specs.Levels.{levels_of, slots, level_at, IsTestOf}
+use Rattle.spd_nodes.specs.Levels.{levels_of, level_at, IsTestOf}
 use Rattle.spd_nodes.proofs.CallerLemmas.{level-plain, level-primed}
-use Rattle.spd_search.specs.declared.looking.Turn.{Turn}
 use Rattle.spd_search.specs.declared.looking.Turn.TheVariants.{Free, Both, Yes, No}
 use Rattle.spd_search.specs.inner.Looking.{turn_of}
 

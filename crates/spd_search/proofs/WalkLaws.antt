@@ -1,8 +1,7 @@
 -- Giving the variables their values one after the other comes to the first state.
-use Rattle.std.proofs.Common.{◌≡◌, ℕ, zero, suc, ◌+◌, ◌-◌, ◌<◌, ◌≤◌, Bool, true, false, cond, List, [], ◌∷◌, ◌++◌, length, get_or, drop, Option, Some, None, refl, sym, ◌∙◌, ap, subst, arith, append_assoc, append-nil}
+use Rattle.std.proofs.Common.{◌≡◌, ℕ, ◌<◌, Bool, true, false, cond, List, [], ◌∷◌, ◌++◌, length, get_or, Option, Some, None, refl, sym, ◌∙◌, ap, subst, arith, append_assoc, append-nil}
 use Rattle.std.specs.Prelude.{option_map}
 use Rattle.std.specs.Option.{is_some}
-use Rattle.std.proofs.Math.Seq.{drop-cons}
 use Rattle.spd_model.specs.States.{IsState}
 use Rattle.spd_nodes.specs.declared.leaf.Leaf.{Leaf}
 use Rattle.spd_search.specs.inner.Settling.{AreFirst}
@@ -19,9 +18,9 @@ splits-below : {X : Type 0} (ds : List ℕ) (n : ℕ) (h : ℕ → List ℕ → 
 splits-below [] n h s = tt
 splits-below (d ∷ ds) n h s = (
   is_some-below n (λ y. h y [])
-  ∙ ap (any_below n) (λ i y. (s y).0 i)
-  ∙ any_below-swap n d (λ y v. is_some (h y (v ∷ [])))
-  ∙ ap (any_below d) (λ i v. sym (is_some-below n (λ y. h y (v ∷ []))) i),
+      ∙ ap (any_below n) (λ i y. (s y).0 i)
+      ∙ any_below-swap n d (λ y v. is_some (h y (v ∷ [])))
+      ∙ ap (any_below d) (λ i v. sym (is_some-below n (λ y. h y (v ∷ []))) i),
   λ v. splits-below ds n (λ y r. h y (v ∷ r)) (λ y. (s y).1 v),
 )
 
@@ -29,9 +28,9 @@ pub splits-seek : (wants : Leaf → Bool) (ds : List ℕ) (g : List ℕ → Leaf
 splits-seek wants [] g = tt
 splits-seek wants (d ∷ ds) g = (
   is_some-below d (λ y. first_below d (λ x. seek wants ds [] (λ p. g (y ∷ x ∷ p))))
-  ∙ ap (any_below d) (λ i y. is_some-below d (λ x. seek wants ds [] (λ p. g (y ∷ x ∷ p))) i)
-  ∙ any_below-swap d d (λ y x. is_some (seek wants ds [] (λ p. g (y ∷ x ∷ p))))
-  ∙ ap (any_below d) (λ i v. sym (is_some-below d (λ y. seek wants ds [] (λ p. g (y ∷ v ∷ p)))) i),
+      ∙ ap (any_below d) (λ i y. is_some-below d (λ x. seek wants ds [] (λ p. g (y ∷ x ∷ p))) i)
+      ∙ any_below-swap d d (λ y x. is_some (seek wants ds [] (λ p. g (y ∷ x ∷ p))))
+      ∙ ap (any_below d) (λ i v. sym (is_some-below d (λ y. seek wants ds [] (λ p. g (y ∷ v ∷ p)))) i),
   λ v. splits-below ds d (λ y r. seek wants ds r (λ p. g (y ∷ v ∷ p))) (λ y. splits-seek wants ds (λ p. g (y ∷ v ∷ p))),
 )
 

@@ -1,4 +1,3 @@
-use Rattle.std.proofs.Common.{◌≡◌, ◌∙◌, sym, None}
 use Rattle.spd_nodes.specs.Levels.{AllPositive, slots}
 use Rattle.spd_nodes.proofs.CallerLemmas.{positive-slots, tree_of-value_at}
 use Rattle.spd_search.proofs.FoundLaws.{found-nowhere}
@@ -11,4 +10,4 @@ returns-in-None-clause-found g c =
     let sound = c.layout.ensures.sound in
     let o : AllPositive (slots s.sizes) = positive-slots s.sizes sound.layout.values in
     let is = tree_of-value_at (slots s.sizes) 0 (s.tree c.args.r) (sound.reduced c.args.r c.requires.known) c.requires.whole in
-    found-nowhere s.sizes wants (s.tree c.args.r) o is (sym c.in_ok-leaf_in.ensures.ok ∙ c.in-None.is)
+    found-nowhere s.sizes wants (s.tree c.args.r) o is c.in_ok-leaf_in.field-0 c.in_ok-leaf_in.ensures.ok c.in-None.is

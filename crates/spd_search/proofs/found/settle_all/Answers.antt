@@ -1,12 +1,7 @@
-use Rattle.std.proofs.Common.{arith, ◌≡◌, ◌<◌, ◌+◌, ◌++◌, ◌∷◌, [], ℕ, List, Some, length, refl, ◌∙◌, sym, ap, subst}
+use Rattle.std.proofs.Common.{arith, ◌≡◌, ◌<◌, ◌++◌, ◌∷◌, [], ℕ, List, length, refl, ◌∙◌, sym, ap, subst}
 use Rattle.std.proofs.lemmas.List.{length-append}
-use Rattle.spd_nodes.specs.declared.leaf.Leaf.{Leaf}
 use Rattle.spd_nodes.specs.Levels.{AllPositive, slots}
-use Rattle.spd_nodes.specs.Trees.{value_at, tree_of}
-use Rattle.spd_nodes.specs.Shown.{Shown, meaning}
 use Rattle.spd_nodes.proofs.CallerLemmas.{positive-slots, tree_of-value_at}
-use Rattle.spd_search.specs.declared.found.Found.{Found}
-use Rattle.spd_search.specs.Found.{first_found}
 use Rattle.spd_search.specs.inner.Settling.{Settles}
 use Rattle.spd_search.proofs.FoundLaws.{Along, along-start, along-next, along-end}
 use Rattle.spd_search.proofs.found.settle_all.Goals as goal
@@ -38,8 +33,8 @@ loop-var-preserved g c =
     let near : length c.loop-var.first.items < length s.sizes = omega (arith, i.count, ap length variables) in
     let pushed : length c.settle.new.first.items ≡ length (c.loop-var.first.items ++ settles.value ∷ []) = ap length settles.values in
     record {
-      same = c.settle.ensures.same ∙ i.same;
-      keeps = c.settle.ensures.keeps ∙ i.keeps;
+      same = rw c.settle.ensures.same i.same;
+      keeps = rw c.settle.ensures.keeps i.keeps;
       barren = rw i.same at c.settle.ensures.barren;
       count = omega (arith, i.count, pushed, length-append c.loop-var.first.items (settles.value ∷ []));
       along = along-next s.sizes wants (s.tree c.args.r) o is c.loop-var.first.items c.settle.new.first.items c.loop-var.leaf c.in_ok-leaf.leaf i.along near settles;
@@ -54,6 +49,4 @@ returns-clause-found g c =
     let i = c.loop-var.invariant in
     let variables : c.sizes-variables.result.now ≡ s.sizes = c.sizes-variables.ensures.sizes ∙ c.layout.ensures.sizes in
     let all : length c.loop-var.first.items ≡ length s.sizes = omega (arith, i.count, ap length variables) in
-    let state : c.of.result ≡ c.loop-var.first.items = c.of.ensures ∙ c.deref.ensures.value in
-    let found : List ℕ → Found = λ x. record { state = x; leaf = c.loop-var.leaf } in
-    ap (λ (x : List ℕ). Some (found x)) state ∙ along-end s.sizes wants (s.tree c.args.r) o is c.loop-var.first.items c.loop-var.leaf i.along all
+    along-end s.sizes wants (s.tree c.args.r) o is c.of.result c.deref.result.now c.loop-var.first.items c.loop-var.leaf c.of.ensures c.deref.ensures.value i.along all

@@ -1,4 +1,4 @@
-use Rattle.std.proofs.Common.{rules, ◌≡◌, ◌<◌, true, ◌∙◌, sym, ap}
+use Rattle.std.proofs.Common.{rules, ◌≡◌, ◌<◌, true}
 use Rattle.spd_nodes.specs.Levels.{slots}
 use Rattle.spd_nodes.specs.Trees.{tree_rank}
 use Rattle.spd_nodes.specs.Shown.{IsSound}
