@@ -8,7 +8,6 @@
 
 mod choosing;
 mod chosen;
-mod comparing;
 mod highest;
 mod placing;
 mod tables;
