@@ -171,11 +171,6 @@ place-starts levels sizes ts same h =
     (levels_of ds) 0 ts (Ends (Act 0)) (omega arith) (tt, tt) (record { starts = h; first = refl }) in
     ap (λ v. at_each_leaf v place_leaf ts) same ∙ e
 
-pub starts-alike : (s : Shown) (ks : List Entry) (d e : Entry) → 1 < length ks → get_or ks 1 d ≡ get_or ks 0 e → StartsAlike (trees_of s ks)
-starts-alike s [] d e b h = absurd (omega arith)
-starts-alike s (k ∷ []) d e b h = absurd (omega arith)
-starts-alike s (k ∷ q ∷ ks) d e b h = ap s.tree h
-
 leaf-tree : (t : Tree) → IsLeaf t → t ≡ Ends (last_leaf t)
 leaf-tree (Ends a) h = refl
 leaf-tree (Tests l y n) h = absurd h
