@@ -7,9 +7,9 @@ use Rattle.spd_cons_core.specs.declared.key.Entry.{Entry}
 use Rattle.spd_model.specs.Numbers.{numbers_below}
 use Rattle.spd_nodes.specs.declared.forest.StoreFault.{StoreFault}
 use Rattle.spd_nodes.specs.declared.forest.StoreFault.TheVariants as F
-use Rattle.spd_nodes.specs.Shown.{Shown, IsSound, Grows, MakesAmong, MakesDiagram, meaning}
+use Rattle.spd_nodes.specs.Shown.{Shown, IsSound, Grows, StandsFor, MakesAmong, MakesDiagram, meaning}
 use Rattle.spd_nodes.specs.States.{Function, test_trees}
-use Rattle.spd_nodes.proofs.CallerLemmas.{Among, IsIn, among-after, grows-none, has-made, has-none, in-back, in-front, makes-none, stands-grows, within-in}
+use Rattle.spd_nodes.proofs.CallerLemmas.{Among, IsIn, among-after, grows-none, grows-then, has-made, has-none, in-back, in-front, makes-none, stands-grows, within-in}
 use Rattle.spd_backup.specs.declared.backing.Bounds.{Bounds}
 use Rattle.spd_policy.specs.declared.tables.BestTables.{BestTables}
 use Rattle.spd_policy.specs.Best.{greatest_of, policy_by, choosing_functions, best_functions, IsNumeric, AreNumeric, lows_of, highs_of, MakesBest, MakesBestOf}
@@ -70,6 +70,10 @@ module _ (s : Shown) (o : IsSound s) (ls hs : List Entry) (known_low : All (λ r
   low-fails t e m = best-failed e (low-made t (Err e) m)
 
   module _ (t : Shown) (low : Entry) (l : MakesDiagram s t (greatest_of lows) (Ok low)) where
+    -- the greatest lower bound goes on to be that
+    pub low-stands : (u : Shown) → Grows t u → StandsFor u low (greatest_of (map (meaning u) ls))
+    low-stands u g = subst (λ fs. StandsFor u low (greatest_of fs)) (sym (meanings-grow s u ls (grows-then l.grows g) known_low)) (stands-grows g l.ok)
+
     high-made : (u : Shown) (r : Result Entry StoreFault) → MakesDiagram t u (greatest_of (map (meaning t) hs)) r → MakesAmong s u (greatest_of highs) (best_functions lows highs) r
     high-made u r m =
         among-after among-high (has-made (low-made t (Ok low) l)) (subst (λ fs. MakesDiagram t u (greatest_of fs) r) (meanings-grow s t hs l.grows known_high) m)

@@ -1,15 +1,11 @@
--- The greatest of leaves, and the place of the first that has the greatest number.
-use Rattle.std.proofs.Common.{◌≡◌, ℕ, zero, suc, ◌+◌, ◌<◌, List, [], ◌∷◌, ◌++◌, map, length, get_or, take, fold, refl, sym, ◌∙◌, ap, arith, ℤ, cond, not, All}
+-- The greatest of leaves.
+use Rattle.std.proofs.Common.{◌≡◌, ℕ, zero, suc, ◌+◌, ◌<◌, List, [], ◌∷◌, ◌++◌, map, length, get_or, take, fold, refl, sym, ◌∙◌, ap, arith, ℤ, All}
 use Rattle.std.specs.Int.{int_max}
-use Rattle.std.specs.Ordering.{int_eq}
-use Rattle.std.specs.List.{position_or_len}
 use Rattle.std.proofs.lemmas.Int.{ints, int_max_is}
 use Rattle.std.proofs.lemmas.List.{map_push, take_more}
 use Rattle.std.proofs.lemmas.List.Elements.{All-head, All-tail}
-use Rattle.spd_scaled.proofs.CallerLemmas.Ring.{int_eq-holds}
 use Rattle.spd_cons_core.specs.declared.key.Entry.{Entry}
 use Rattle.spd_model.specs.Numbers.{greatest}
-use Rattle.spd_model.proofs.CallerLemmas.Greatest.{IsFirstBest, first_best_start, first_place_is}
 use Rattle.spd_nodes.specs.declared.leaf.Leaf.{Leaf}
 use Rattle.spd_nodes.specs.declared.leaf.Leaf.TheVariants.{Num, Pair, Act}
 use Rattle.spd_nodes.specs.Shown.{Shown}
@@ -19,7 +15,7 @@ use Rattle.spd_gather.specs.Down.{Each, last_leaf}
 use Rattle.spd_gather.specs.Lists.{trees_of}
 use Rattle.spd_weigh.specs.Leaves.{number_of}
 use Rattle.spd_policy.specs.Best.{IsNum}
-use Rattle.spd_policy.specs.Choosing.{greatest_leaf, leaf_numbers, place_leaf}
+use Rattle.spd_policy.specs.Choosing.{greatest_leaf}
 
 -- the leaf of an entry that is one
 abbrev pub leaf_at : Shown → Entry → Leaf
@@ -29,9 +25,9 @@ pub leaves-are : (s : Shown) (ks : List Entry) → map last_leaf (trees_of s ks)
 leaves-are s [] = refl
 leaves-are s (k ∷ ks) = ap (λ z. leaf_at s k ∷ z) (leaves-are s ks)
 
-pub numbers-are : (s : Shown) (ks : List Entry) → leaf_numbers (map last_leaf (trees_of s ks)) ≡ map (λ r. number_of (leaf_at s r)) ks
-numbers-are s [] = refl
-numbers-are s (k ∷ ks) = ap (λ z. number_of (leaf_at s k) ∷ z) (numbers-are s ks)
+-- the numbers of leaves
+abbrev pub leaf_numbers : List Leaf → List ℤ
+leaf_numbers ls = map number_of ls
 
 -- ---- the greatest leaf
 
@@ -89,25 +85,3 @@ greatest-alike u [] h = refl
 greatest-alike u (t ∷ ts) h =
     ap (λ v. fold (num_of int_max) (num_of int_max (last_leaf u) (last_leaf v)) (map last_leaf ts)) h.0
     ∙ ap (λ b. fold (num_of int_max) b (map last_leaf ts)) (higher-itself (last_leaf u)) ∙ greatest-alike u ts h.1
-
-fold-alike : (u : Tree) (ts : List Tree) → Each (λ t. t ≡ u) ts → fold int_max (number_of (last_leaf u)) (leaf_numbers (map last_leaf ts)) ≡ number_of (last_leaf u)
-fold-alike u [] h = refl
-fold-alike u (t ∷ ts) h =
-    ap (λ v. fold int_max (int_max (number_of (last_leaf u)) (number_of (last_leaf v))) (leaf_numbers (map last_leaf ts))) h.0
-    ∙ ap (λ b. fold int_max b (leaf_numbers (map last_leaf ts))) (max-itself (number_of (last_leaf u))) ∙ fold-alike u ts h.1
-
-pub place-alike : (u : Tree) (ts : List Tree) → Each (λ t. t ≡ u) ts → place_leaf (map last_leaf (u ∷ ts)) ≡ Act 0
-place-alike u ts h =
-    let x : ℤ = number_of (last_leaf u) in
-    let xs : List ℤ = leaf_numbers (map last_leaf ts) in
-    let first : IsFirstBest (x ∷ xs) x 0 = record {
-      greatest_is = sym (fold-alike u ts h);
-      place_is = sym (ap (λ b. cond (not b) (1 + position_or_len (int_eq x) xs) 0) (int_eq-holds x x refl));
-      within = omega arith;
-    } in
-    ap Act (sym (first_place_is (x ∷ xs) x 0 first))
-
--- the first number of a list
-pub first-one : {X : Type 0} (f : X → ℤ) (xs : List X) (d : X) → 0 < length xs → IsFirstBest (map f (take 1 xs)) (f (get_or xs 0 d)) 0
-first-one f [] d h = absurd (omega arith)
-first-one f (x ∷ xs) d h = first_best_start (f x)

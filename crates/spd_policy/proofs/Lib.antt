@@ -4,5 +4,6 @@ mod AlikeLaws
 mod BestLaws
 mod LeafLaws
 mod ListLaws
+mod PlaceLaws
 mod Rows
 mod SplitLaws

@@ -4,10 +4,10 @@ use Rattle.std.specs.Prelude.{Contains}
 use Rattle.std.proofs.lemmas.List.{length-map}
 use Rattle.std.proofs.lemmas.List.Elements.{All-nil, All-cons, All-head, All-tail, All-weaker}
 use Rattle.spd_cons_core.specs.declared.key.Entry.{Entry}
-use Rattle.spd_model.specs.Numbers.{greatest, first_place}
+use Rattle.spd_model.specs.Numbers.{greatest}
 use Rattle.spd_model.specs.States.{IsState}
 use Rattle.spd_nodes.specs.declared.leaf.Leaf.{Leaf}
-use Rattle.spd_nodes.specs.declared.leaf.Leaf.TheVariants.{Num, Act}
+use Rattle.spd_nodes.specs.declared.leaf.Leaf.TheVariants.{Num}
 use Rattle.spd_nodes.specs.Levels.{levels_of, slots, level_at}
 use Rattle.spd_nodes.specs.Trees.{Tree, IsFrom, IsReduced}
 use Rattle.spd_nodes.specs.States.{Function, point}
@@ -19,9 +19,9 @@ use Rattle.spd_gather.specs.Lists.{trees_of, AreKnown, HoldsRows, IsListReady}
 use Rattle.spd_gather.specs.Rows.{Row}
 use Rattle.spd_gather.proofs.CallerLemmas.{down-whole, each-both, each-of, each-weaker, leaves-end, reduced-all, rows-grow, value_at-each, values_at}
 use Rattle.spd_weigh.specs.Leaves.{number_of}
-use Rattle.spd_policy.specs.Best.{numbers_at, greatest_of, policy_by, IsNum, IsNumeric}
-use Rattle.spd_policy.specs.Choosing.{greatest_leaf, leaf_numbers, place_leaf, MayCompare}
-use Rattle.spd_policy.proofs.LeafLaws.{greatest-number}
+use Rattle.spd_policy.specs.Best.{numbers_at, greatest_of, IsNum, IsNumeric}
+use Rattle.spd_policy.specs.Choosing.{greatest_leaf, MayCompare}
+use Rattle.spd_policy.proofs.LeafLaws.{greatest-number, leaf_numbers}
 
 -- ---- the number of all levels
 
@@ -82,11 +82,11 @@ values-are : (s : Shown) (ks : List Entry) (x y : List ℕ) → values_at (slots
 values-are s [] x y = refl
 values-are s (k ∷ ks) x y = ap (λ z. meaning s k x y ∷ z) (values-are s ks x y)
 
-numbers-at : (s : Shown) (ks : List Entry) (x y : List ℕ) → leaf_numbers (leaves_at s ks x y) ≡ numbers_at (map (meaning s) ks) x y
+pub numbers-at : (s : Shown) (ks : List Entry) (x y : List ℕ) → leaf_numbers (leaves_at s ks x y) ≡ numbers_at (map (meaning s) ks) x y
 numbers-at s [] x y = refl
 numbers-at s (k ∷ ks) x y = ap (λ z. number_of (meaning s k x y) ∷ z) (numbers-at s ks x y)
 
-all-nums : (s : Shown) (ks : List Entry) → All (IsNumeric s) ks → (x y : List ℕ) → IsState s.sizes x → IsState s.sizes y → All IsNum (leaves_at s ks x y)
+pub all-nums : (s : Shown) (ks : List Entry) → All (IsNumeric s) ks → (x y : List ℕ) → IsState s.sizes x → IsState s.sizes y → All IsNum (leaves_at s ks x y)
 all-nums s [] h x y p q = All-nil IsNum
 all-nums s (k ∷ ks) h x y p q =
     All-cons IsNum (meaning s k x y) (leaves_at s ks x y) ((All-head (IsNumeric s) k ks h).numbers x y p q) (all-nums s ks (All-tail (IsNumeric s) k ks h) x y p q)
@@ -107,12 +107,12 @@ module _ (levels : ℕ) (s : Shown) (o : IsSound s) (same : levels ≡ levels_of
   stands : Each (Stands ds 0) ts
   stands = each-weaker (λ t. IsReduced ds 0 t × IsFrom ds 0 0 t) (Stands ds 0) (λ t a. (a.0, not-before-from ds 0 0 t (omega arith) a.1)) ts (each-both (IsReduced ds 0) (IsFrom ds 0 0) ts reduced whole)
 
-  list-tree : (op : List Leaf → Leaf) → IsTreeFor s (at_each_leaf (levels_of ds) op ts) (λ x y. op (leaves_at s ks x y))
+  pub list-tree : (op : List Leaf → Leaf) → IsTreeFor s (at_each_leaf (levels_of ds) op ts) (λ x y. op (leaves_at s ks x y))
   list-tree op =
       let w = down-whole ds (levels_of ds) (at_leaves op) (leaves-end ds op) ts reduced whole in
       record { reduced = w.0; whole = w.1; value = record { at = λ x y p q. value_at-each ds op ts (point x y) stands ∙ ap op (values-are s ks x y) } }
 
-  all-levels : (op : List Leaf → Leaf) (f : Function) → IsTreeFor s (at_each_leaf (levels_of ds) op ts) f → IsTreeFor s (at_each_leaf levels op ts) f
+  pub all-levels : (op : List Leaf → Leaf) (f : Function) → IsTreeFor s (at_each_leaf (levels_of ds) op ts) f → IsTreeFor s (at_each_leaf levels op ts) f
   all-levels op f = subst (λ v. IsTreeFor s (at_each_leaf v op ts) f) (sym same)
 
   -- the tree of the greatest number at each state
@@ -129,17 +129,7 @@ module _ (levels : ℕ) (s : Shown) (o : IsSound s) (same : levels ≡ levels_of
         };
       })
 
-  -- the tree of the place of the first that has it
-  pub place-tree : IsTreeFor s (at_each_leaf levels place_leaf ts) (policy_by (map (meaning s) ks))
-  place-tree =
-      let w = list-tree place_leaf in
-      all-levels place_leaf (policy_by (map (meaning s) ks)) (record {
-        reduced = w.reduced;
-        whole = w.whole;
-        value = record { at = λ x y p q. w.value.at x y p q ∙ ap (λ z. Act (first_place (greatest z) z)) (numbers-at s ks x y) };
-      })
-
-  pub list-ready : length ks ≤ 64 → (op : List Leaf → Leaf) (rows : List Row) → HoldsRows (at_each_leaf (levels_of ds) op) s rows → IsListReady (at_each_leaf levels op) (MayCompare levels s.sizes) s ks rows
+  pub list-ready : length ks ≤ 65 → (op : List Leaf → Leaf) (rows : List Row) → HoldsRows (at_each_leaf (levels_of ds) op) s rows → IsListReady (at_each_leaf levels op) (MayCompare levels s.sizes) s ks rows
   list-ready few op rows holds = record {
     sound = o;
     met = record {

@@ -36,9 +36,9 @@ pair-first = refl
 all-functions : length (best_functions lower upper) ≡ 14
 all-functions = refl
 
--- the recursions' leaves
+-- the recursions' leaves: the greatest one, and the place of the first that is the head
 greatest-leaf : greatest_leaf (Num (pos 3) ∷ Num (pos 5) ∷ Num (pos 4) ∷ []) ≡ Num (pos 5)
 greatest-leaf = refl
 
-place-leaf : place_leaf (Num (pos 3) ∷ Num (pos 5) ∷ Num (pos 5) ∷ []) ≡ Act 1
+place-leaf : place_leaf (Num (pos 5) ∷ Num (pos 3) ∷ Num (pos 5) ∷ Num (pos 5) ∷ []) ≡ Act 1
 place-leaf = refl

@@ -1,5 +1,5 @@
 -- How a list goes on to its halves, whatever is made at the leaves.
-use Rattle.std.proofs.Common.{◌≡◌, ℕ, ◌-◌, ◌<◌, ◌≤◌, List, map, ◌∙◌, ap, arith, inr, Result, Ok, Err, IfOk}
+use Rattle.std.proofs.Common.{◌≡◌, ℕ, ◌-◌, ◌<◌, ◌≤◌, List, map, ◌∙◌, ap, arith, inr}
 use Rattle.std.proofs.lemmas.List.{length-map}
 use Rattle.spd_cons_core.specs.declared.key.Entry.{Entry}
 use Rattle.spd_nodes.specs.declared.leaf.Leaf.{Leaf}
@@ -7,13 +7,19 @@ use Rattle.spd_nodes.specs.Levels.{levels_of, slots}
 use Rattle.spd_nodes.specs.Shown.{Shown, IsSound}
 use Rattle.spd_nodes.specs.Trees.{Tree, Ends, IsReduced}
 use Rattle.spd_apply.specs.Halves.{yes_at, no_at, IsNotBefore, IsLeaf}
-use Rattle.spd_gather.specs.declared.rule.ListPlan.{ListPlan}
-use Rattle.spd_gather.specs.declared.rule.ListPlan.TheVariants as P
 use Rattle.spd_gather.specs.Down.{Each, FitsAt, last_leaf, at_leaves, at_each_leaf}
-use Rattle.spd_gather.specs.Lists.{trees_of, AreKnown, GoesToTest, IsListPlan}
-use Rattle.spd_gather.specs.Meeting.{list_rank}
+use Rattle.spd_gather.specs.Lists.{trees_of, AreKnown, GoesToTest}
+use Rattle.spd_gather.specs.Meeting.{IsLowest, list_rank}
 use Rattle.spd_gather.proofs.CallerLemmas.{each-weaker, from-start, halves, leaf-before, leaves-end, meet-lowest, meets, one-rank, rank-lowest, reduced-all}
-use Rattle.spd_policy.specs.Choosing.{MayCompare, AreHalves, IsSplit}
+use Rattle.spd_policy.specs.Choosing.{MayCompare}
+
+-- two lists are the halves of a list at its lowest level
+pub record AreHalves (s : Shown) (ks : List Entry) (level : ℕ) (yes no : List Entry) : Type 0 where
+  pub lowest : IsLowest level (trees_of s ks)
+  pub yes_known : AreKnown s yes
+  pub no_known : AreKnown s no
+  pub yes_is : trees_of s yes ≡ map (yes_at level) (trees_of s ks)
+  pub no_is : trees_of s no ≡ map (no_at level) (trees_of s ks)
 
 module _ (op : List Leaf → Leaf) (levels : ℕ) (s : Shown) (o : IsSound s) (ks : List Entry) (known : AreKnown s ks) (may : MayCompare levels s.sizes (trees_of s ks)) where
   abbrev ds : List ℕ
@@ -43,18 +49,8 @@ module _ (op : List Leaf → Leaf) (levels : ℕ) (s : Shown) (o : IsSound s) (k
         no_smaller = rw h.no_is (omega (arith, r.1, ranks.0));
       }
 
-  pub split-plans : (ends : List Tree → Type 0) → (Each IsLeaf ts → ends ts) → (p : ListPlan) → IsSplit s ks p → IsListPlan making (MayCompare levels s.sizes) ends s ks p
-  split-plans ends f P.Bottom h = f h
-  split-plans ends f (P.Below b) h = absurd h
-  split-plans ends f (P.Test l y n) h = goes-to-halves l.0 y.items n.items h
-
   -- of leaves the operation's leaf is made
   pub made-of-leaves : Each IsLeaf ts → making ts ≡ Ends (op (map last_leaf ts))
   made-of-leaves leaves =
       ap (λ v. at_each_leaf v op ts) may.same
       ∙ from-start ds (levels_of ds) (at_leaves op) (leaves-end ds op) (levels_of ds) 0 (omega arith) ts (each-weaker IsLeaf (IsNotBefore (levels_of ds)) (leaf-before (levels_of ds)) ts leaves)
-
--- what a split says of its plan
-pub plan-of : {E : Type 0} (P Q : ListPlan → Type 0) → ((p : ListPlan) → P p → Q p) → (r : Result ListPlan E) → IfOk r P → IfOk r Q
-plan-of P Q f (Ok p) h = f p h
-plan-of P Q f (Err e) h = tt

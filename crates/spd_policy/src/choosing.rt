@@ -60,7 +60,7 @@ fn choose<F: Forest, L: Ledger>(
     let _ = forest.layout();
     let low = greatest_bound(alloc, forest, lows, &mut tables.greatest, steps)?;
     let high = greatest_bound(alloc, forest, highs, &mut tables.greatest, steps)?;
-    let act = first_greatest(alloc, forest, lows, &mut tables.places, steps)?;
+    let act = first_greatest(alloc, forest, low, lows, &mut tables.places, steps)?;
     Ok(Best { low, high, act })
 }
 

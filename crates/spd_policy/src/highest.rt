@@ -1,6 +1,6 @@
 //! The greatest of several diagrams.
 
-ghost use Rattle.std.specs.Prelude.{◌≡◌, ℕ, ◌<◌, ◌≤◌, All, length, map, true};
+ghost use Rattle.std.specs.Prelude.{◌≡◌, ◌↔◌, ℕ, ◌<◌, ◌≤◌, All, length, map, IsTrue, true};
 ghost use Rattle.std.specs.Int.{int_max};
 ghost use Rattle.spd_nodes.specs.Levels.{levels_of, slots};
 ghost use Rattle.spd_nodes.specs.Shown.{Shown, MakesDiagram, meaning};
@@ -9,12 +9,11 @@ ghost use Rattle.spd_apply.specs.Operations.{num_of};
 ghost use Rattle.spd_gather.specs.Down.{Each, at_each_leaf, last_leaf};
 ghost use Rattle.spd_gather.specs.Lists.{AreKnown, trees_of};
 ghost use Rattle.spd_policy.specs.Best.{greatest_of, IsNumeric};
-ghost use Rattle.spd_policy.specs.Choosing.{greatest_leaf, MayCompare, HoldsGreatest};
+ghost use Rattle.spd_policy.specs.Choosing.{greatest_leaf, AreOne, MayCompare, HoldsGreatest};
 
-use crate::comparing::{are_one, leaf_of, split};
 use spd_apply::OpFault;
-use spd_gather::{ListPlan, ListRule, Table, make_list};
-use spd_nodes::{Forest, Leaf, Ref, Steps};
+use spd_gather::{ListPlan, ListRule, Table, halves_of, lowest_level, make_list};
+use spd_nodes::{Forest, Leaf, Ref, Steps, View};
 use std::alloc::{AllocError, Global};
 use std::sync::ledger::Ledger;
 
@@ -22,6 +21,32 @@ use std::sync::ledger::Ledger;
 #[derive(Clone, Copy)]
 struct Highest {
     levels: u16,
+}
+
+/// Whether all Refs of a list are one.
+fn are_one(list: &[Ref]) -> bool
+    ensures { IsTrue result ↔ AreOne list.now }
+{
+    for i in 1..list.len() {
+        if list[i] != list[0] {
+            return false;
+        }
+    }
+    true
+}
+
+/// The leaf of a Ref that is one.
+fn leaf_of<F: Forest>(forest: &mut F, r: Ref) -> Leaf
+    requires known { (F.shows forest.old).knows r ≡ true }
+    requires leaf { IsLeaf ((F.shows forest.old).tree r) }
+    ensures same { F.shows forest.new ≡ F.shows forest.old }
+    ensures keeps { F.kept forest.new ≡ F.kept forest.old }
+    ensures leaf { result ≡ last_leaf ((F.shows forest.old).tree r) }
+{
+    match forest.view(r) {
+        View::Leaf(leaf) => leaf,
+        View::Test { .. } => unreachable!(),
+    }
 }
 
 /// The greater of two leaves, where both are numbers.
@@ -68,7 +93,13 @@ impl ListRule for Highest {
         forest: &mut F,
         list: &[Ref],
     ) -> Result<ListPlan, AllocError> {
-        split(alloc, forest, list)
+        match lowest_level(forest, list) {
+            None => Ok(ListPlan::Bottom),
+            Some(level) => {
+                let (yes, no) = halves_of(alloc, forest, list, level)?;
+                Ok(ListPlan::Test { level, yes, no })
+            }
+        }
     }
 
     fn bottom<F: Forest, L: Ledger>(

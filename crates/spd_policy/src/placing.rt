@@ -1,59 +1,63 @@
 //! The first of several diagrams that is the greatest.
 
-ghost use Rattle.std.specs.Prelude.{◌≡◌, ℕ, ◌<◌, ◌≤◌, All, length, map, true};
-ghost use Rattle.spd_model.specs.Numbers.{greatest, first_place};
+ghost use Rattle.std.specs.Prelude.{◌≡◌, ℕ, ◌<◌, ◌≤◌, ◌≢◌, ◌∷◌, All, IfOk, length, map, slice_index_or};
+ghost use Rattle.spd_cons_core.specs.declared.key.Entry.{Entry};
 ghost use Rattle.spd_nodes.specs.Levels.{levels_of, slots};
-ghost use Rattle.spd_nodes.specs.Shown.{Shown, MakesDiagram, meaning};
-ghost use Rattle.spd_apply.specs.Halves.{IsLeaf};
-ghost use Rattle.spd_gather.specs.Down.{Each, at_each_leaf, last_leaf};
-ghost use Rattle.spd_gather.specs.Lists.{AreKnown, trees_of};
-ghost use Rattle.spd_weigh.specs.Leaves.{number_of as number_at};
-ghost use Rattle.spd_policy.specs.Best.{policy_by, IsNumeric};
-ghost use Rattle.spd_policy.specs.Choosing.{leaf_numbers, place_leaf, MayCompare, IsDecided, HoldsPlaces};
+ghost use Rattle.spd_nodes.specs.Shown.{Shown, StandsFor, MakesDiagram, meaning};
+ghost use Rattle.spd_gather.specs.Down.{at_each_leaf};
+ghost use Rattle.spd_policy.specs.Best.{greatest_of, policy_by, IsNumeric};
+ghost use Rattle.spd_policy.specs.Choosing.{place_leaf, MayCompare, IsDecided, IsLike, HoldsPlaces};
 
-use crate::comparing::{are_one, leaf_of, split};
 use spd_apply::OpFault;
-use spd_gather::{ListPlan, ListRule, Table, make_list};
+use spd_gather::{ListPlan, ListRule, Table, halves_of, lowest_level, make_list};
 use spd_nodes::{Forest, Leaf, Ref, Steps};
 use std::alloc::{AllocError, Global};
 use std::sync::ledger::Ledger;
 
-/// The first of several diagrams that is the greatest; `levels` is the number of all levels.
+/// The place, in a list of the greatest and of all bounds, of the first bound that is the greatest; `levels` is the number of all
+/// levels.
 #[derive(Clone, Copy)]
 struct Placing {
     levels: u16,
 }
 
-/// The number of a leaf; a leaf of another kind counts as 0.
-fn number_of(leaf: Leaf) -> i128
-    ensures { result ≡ number_at leaf }
+/// The index of the first Ref after the head of a list that is the head, else the list's length.
+fn first_same(list: &[Ref]) -> usize
+    requires { 0 < length list.now }
+    ensures after { 0 < result }
+    ensures within { result ≤ length list.now }
+    ensures before { (k : ℕ) (d : Entry) → 0 < k → k < result → slice_index_or list.now k d ≢ slice_index_or list.now 0 d }
+    ensures same { (d : Entry) → result < length list.now → slice_index_or list.now result d ≡ slice_index_or list.now 0 d }
 {
-    match leaf {
-        Leaf::Num(x) => x,
-        _ => 0,
+    for i in 1..list.len() {
+        if list[i] == list[0] {
+            return i;
+        }
+    }
+    list.len()
+}
+
+/// Puts the greatest in the place of each bound after the first one that is the greatest. Any bound may stand there, since none of them
+/// is the first, so lists with the same answer become one.
+fn cut(list: &mut Vec<Ref>)
+    requires { 0 < length list.old.items }
+    ensures { IsLike place_leaf list.old.items list.new.items }
+{
+    let greatest = list[0];
+    for i in first_same(list.as_slice())..list.len() {
+        list[i] = greatest;
     }
 }
 
-/// The place of the first leaf that has the greatest number.
-fn first_place_of<F: Forest>(forest: &mut F, list: &[Ref]) -> u32
-    requires known { AreKnown (F.shows forest.old) list.now }
-    requires leaves { All (λ r. IsLeaf ((F.shows forest.old).tree r)) list.now }
-    requires some { 0 < length list.now }
-    requires few { length list.now ≤ 64 }
-    ensures same { F.shows forest.new ≡ F.shows forest.old }
-    ensures keeps { F.kept forest.new ≡ F.kept forest.old }
-    ensures place { result ≡ first_place (greatest (leaf_numbers (map last_leaf (trees_of (F.shows forest.old) list.now)))) (leaf_numbers (map last_leaf (trees_of (F.shows forest.old) list.now))) }
+/// The greatest before all bounds.
+fn with_greatest(alloc: Global, greatest: Ref, list: &[Ref]) -> Result<Vec<Ref>, AllocError>
+    requires { length list.now ≤ 64 }
+    ensures { IfOk result (λ v. v.items ≡ greatest ∷ list.now) }
 {
-    let mut best = number_of(leaf_of(forest, list[0]));
-    let mut place = 0;
-    for i in 1..list.len() {
-        let number = number_of(leaf_of(forest, list[i]));
-        if best < number {
-            best = number;
-            place = i as u32;
-        }
-    }
-    place
+    let mut all = Vec::with_capacity(alloc, list.len() + 1)?;
+    all.push(greatest)?;
+    all.extend_from_slice(list)?;
+    Ok(all)
 }
 
 impl ListRule for Placing {
@@ -73,10 +77,18 @@ impl ListRule for Placing {
         forest: &mut F,
         list: &[Ref],
     ) -> Result<ListPlan, AllocError> {
-        if are_one(list) {
+        if list.len() > 1 && list[1] == list[0] {
             return Ok(ListPlan::Bottom);
         }
-        split(alloc, forest, list)
+        match lowest_level(forest, list) {
+            None => Ok(ListPlan::Bottom),
+            Some(level) => {
+                let (mut yes, mut no) = halves_of(alloc, forest, list, level)?;
+                cut(&mut yes);
+                cut(&mut no);
+                Ok(ListPlan::Test { level, yes, no })
+            }
+        }
     }
 
     fn bottom<F: Forest, L: Ledger>(
@@ -85,18 +97,16 @@ impl ListRule for Placing {
         list: &[Ref],
         steps: &mut Steps<L>,
     ) -> Result<Ref, OpFault> {
-        if are_one(list) {
-            return forest.leaf(Leaf::Act(0), steps);
-        }
-        let place = first_place_of(forest, list);
+        let place = first_same(list) as u32 - 1;
         forest.leaf(Leaf::Act(place), steps)
     }
 }
 
-/// The place of the first of several diagrams that is the greatest, at each state, as an action.
+/// The place of the first of several diagrams that is the greatest, at each state, as an action. The greatest of them is there.
 pub fn first_greatest<F: Forest, L: Ledger>(
     alloc: Global,
     forest: &mut F,
+    greatest: Ref,
     list: &[Ref],
     table: &mut Table,
     steps: &mut Steps<L>,
@@ -104,6 +114,7 @@ pub fn first_greatest<F: Forest, L: Ledger>(
     requires list { All (λ r. IsNumeric (F.shows forest.old) r) list.now }
     requires some { 0 < length list.now }
     requires few { length list.now ≤ 64 }
+    requires greatest { StandsFor (F.shows forest.old) greatest (greatest_of (map (meaning (F.shows forest.old)) list.now)) }
     requires table { HoldsPlaces (F.shows forest.old) table.old }
     ensures made { MakesDiagram (F.shows forest.old) (F.shows forest.new) (policy_by (map (meaning (F.shows forest.old)) list.now)) result }
     ensures keeps { F.kept forest.new ≡ F.kept forest.old }
@@ -113,5 +124,11 @@ pub fn first_greatest<F: Forest, L: Ledger>(
     let last = layout.sizes().len() as u32 - 1;
     let (_, levels) = layout.tests(last, false);
     let rule = Placing { levels };
-    make_list(alloc, forest, &rule, list, table, steps)
+    match with_greatest(alloc, greatest, list) {
+        Ok(mut all) => {
+            cut(&mut all);
+            make_list(alloc, forest, &rule, all.as_slice(), table, steps)
+        }
+        Err(_) => Err(OpFault::Memory),
+    }
 }

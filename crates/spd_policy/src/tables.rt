@@ -11,7 +11,7 @@ use std::alloc::Global;
 pub struct BestTables {
     /// The greatest of some bounds, lower or upper ones.
     pub greatest: Table,
-    /// The places of the first greatest ones.
+    /// The places of the first greatest ones; its lists have the greatest too.
     pub places: Table,
 }
 
@@ -22,7 +22,7 @@ impl BestTables {
     {
         BestTables {
             greatest: Table::new(alloc, actions, memo_size),
-            places: Table::new(alloc, actions, memo_size),
+            places: Table::new(alloc, actions.saturating_add(1), memo_size),
         }
     }
 }

@@ -4,7 +4,7 @@ use Rattle.spd_nodes.specs.Shown.{meaning}
 use Rattle.spd_nodes.proofs.CallerLemmas.{grows-then}
 use Rattle.spd_policy.specs.Best.{MakesBestOf}
 use Rattle.spd_policy.specs.Choosing.{greatest_leaf, place_leaf}
-use Rattle.spd_policy.proofs.BestLaws.{act-fails, all-made, high-fails, low-fails}
+use Rattle.spd_policy.proofs.BestLaws.{act-fails, all-made, high-fails, low-fails, low-stands}
 use Rattle.spd_policy.proofs.ListLaws.{holds-grow, numeric-grows, numeric-known}
 use Rattle.spd_policy.proofs.choosing.choose.Goals as goal
 
@@ -59,9 +59,10 @@ returns-in_err-high-clause-tables g c =
 pub first_greatest-requires : goal.first_greatest-requires
 first_greatest-requires g c =
     let s = g.F.Forest.shows c.args.forest.now in
+    let t = g.F.Forest.shows c.greatest_bound.new.forest in
     let u = g.F.Forest.shows c.greatest_bound-2.new.forest in
     let grows = grows-then c.in_ok-low.ensures.made.grows c.in_ok-high.ensures.made.grows in
-    record { list = numeric-grows s u c.args.lows.now grows c.requires.lower; some = c.requires.some; few = c.requires.few; table = holds-grow place_leaf s u c.args.tables.now.places grows c.requires.tables.places }
+    record { list = numeric-grows s u c.args.lows.now grows c.requires.lower; some = c.requires.some; few = c.requires.few; greatest = low-stands s c.layout.ensures.sound c.args.lows.now c.args.highs.now (numeric-known s c.args.lows.now c.requires.lower) (numeric-known s c.args.highs.now c.requires.upper) c.requires.some c.requires.beside t c.in_ok-low.low c.in_ok-low.ensures.made u c.in_ok-high.ensures.made.grows; table = holds-grow place_leaf s u c.args.tables.now.places grows c.requires.tables.places }
 
 pub returns-in_err-act-clause-made : goal.returns-in_err-act-clause-made
 returns-in_err-act-clause-made g c =

@@ -1,0 +1,6 @@
+use Rattle.std.proofs.Common.{◌≢◌, ℕ, ◌<◌, length, get_or}
+use Rattle.spd_cons_core.specs.declared.key.Entry.{Entry}
+use Rattle.spd_policy.proofs.placing.first_same.Given as goal
+
+abbrev pub invariant-loop-i : goal.invariant-loop-i
+invariant-loop-i l = (k : ℕ) (d : Entry) → 0 < k → k < l.i → k < length l.fn.list → get_or l.fn.list k d ≢ get_or l.fn.list 0 d
