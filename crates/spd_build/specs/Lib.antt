@@ -1,3 +1,4 @@
 pub mod Functions
 pub mod Fitting
 pub mod Built
+pub mod Building

@@ -1,7 +1,13 @@
 //! What building ends with.
 
+ghost use Rattle.std.specs.Prelude.{◌≡◌};
+ghost use Rattle.spd_build.specs.Building.{build_fault};
+ghost use Rattle.spd_build.specs.declared.built.BuildFault.TheVariants as Fault;
+
 use spd_frozen::{Frozen, Mixed};
 use spd_model::State;
+use spd_nodes::StoreFault;
+use std::alloc::AllocError;
 
 /// A model's probabilities, rewards and first value as lists of nodes, which fit the model's variables.
 #[derive(Debug, Drop)]
@@ -39,4 +45,23 @@ pub enum BuildFault {
     Full,
     /// There is no memory.
     Memory,
+}
+
+impl From<StoreFault> for BuildFault {
+    ghost from_gives = { λ e fault. fault ≡ build_fault e };
+
+    fn from(e: StoreFault) -> BuildFault {
+        match e {
+            StoreFault::Full => BuildFault::Full,
+            StoreFault::Memory => BuildFault::Memory,
+        }
+    }
+}
+
+impl From<AllocError> for BuildFault {
+    ghost from_gives = { λ _ fault. fault ≡ Fault.Memory };
+
+    fn from(_: AllocError) -> BuildFault {
+        BuildFault::Memory
+    }
 }

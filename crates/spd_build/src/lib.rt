@@ -7,6 +7,8 @@
 
 mod built;
 mod lists;
+mod rewards;
+mod start;
 mod trees;
 
 pub use built::{BuildFault, Built};
