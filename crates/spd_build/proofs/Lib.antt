@@ -1,2 +1,7 @@
 pub mod TreeLaws
 pub mod FittingLaws
+pub mod BuildingLaws
+pub mod RewardLaws
+pub mod StartLaws
+pub mod BuiltLaws
+pub mod RangeLaws

@@ -2,8 +2,10 @@
 use Rattle.std.specs.Prelude.{◌≡◌, ℕ, List, map, ℤ, Some, None, Result, IfOk, IfErr}
 use Rattle.spd_model.specs.Process.{Process}
 use Rattle.spd_model.specs.Numbers.{greatest}
+use Rattle.spd_model.specs.Reduced.{Node}
 use Rattle.spd_model.specs.States.{sizes}
 use Rattle.spd_model.specs.Chances.{reward_of, first_wrong_sum, first_wide_reward}
+use Rattle.spd_nodes.specs.declared.leaf.Leaf.{Leaf}
 use Rattle.spd_nodes.specs.declared.leaf.Leaf.TheVariants.{Num}
 use Rattle.spd_nodes.specs.States.{test_trees}
 use Rattle.spd_nodes.specs.Shown.{Shown, LacksOne}
@@ -16,7 +18,7 @@ use Rattle.spd_build.specs.declared.built.BuildFault.TheVariants as Fault
 use Rattle.spd_build.specs.Functions.{all_weights, building_functions}
 
 -- the list of nodes of a number by present state
-abbrev pub frozen_numbers : Process → (List ℕ → ℤ) → _
+abbrev pub frozen_numbers : Process → (List ℕ → ℤ) → List (Node Leaf)
 frozen_numbers m f = frozen_of (sizes m) (λ s. Num (f s))
 
 -- The parts of a process as lists of nodes: each is the reduced diagram of its function.

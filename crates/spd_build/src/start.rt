@@ -26,8 +26,8 @@ pub(crate) fn greatest_of<F: Forest, L: Ledger>(
 {
     let _ = forest.layout();
     let mut greatest = rewards[0];
-    for reward in &rewards[1..] {
-        greatest = apply(forest, &Max, greatest, *reward, maxima, steps)?;
+    for number in 1..rewards.len() {
+        greatest = apply(forest, &Max, greatest, rewards[number], maxima, steps)?;
     }
     Ok(greatest)
 }
