@@ -19,7 +19,9 @@ use Rattle.spd_apply.specs.Rules.{Making, HoldsAnswers}
 use Rattle.spd_build.specs.Functions.{constant, tree_functions, table_functions, part_sum, part_functions_at, part_functions, reward, reward_functions, start_functions, building_functions, whole_sum}
 use Rattle.spd_build.specs.Built.{BuildCause}
 use Rattle.spd_build.specs.Ranges.{RewardCause}
+use Rattle.spd_build.specs.Tables.{TableCause, all_table_functions}
 use Rattle.spd_build.specs.declared.built.BuildFault.{BuildFault}
+use Rattle.spd_build.specs.declared.built.BuildFault.TheVariants as Fault
 use Rattle.spd_build.specs.Building.{build_fault, sum_functions, net_functions}
 
 -- ---- nodes of lists
@@ -47,46 +49,48 @@ among-in {f = f} {fs = fs} i = record { nodes = λ sizes. within-in sizes f fs i
 -- ---- the parts of building
 
 module _ (m : Process) where
-  abbrev constants : List Function
-  constants = constant (pos 0) ∷ constant one ∷ []
-
-  abbrev of_dds : List Function
-  of_dds = flat_map (tree_functions m) m.dds
+  abbrev with_dds : List Function
+  with_dds = (constant (pos 0) ∷ constant one ∷ []) ++ flat_map (tree_functions m) m.dds
 
   abbrev of_tables : List Function
   of_tables = flat_map (λ a. flat_map (table_functions m a) (numbers_below (length m.vars))) m.actions
 
+  abbrev with_tables : List Function
+  with_tables = with_dds ++ of_tables
+
+  abbrev with_parts : List Function
+  with_parts = with_tables ++ part_functions m m.reward
+
   abbrev of_rewards : List Function
   of_rewards = flat_map (reward_functions m) m.actions
 
-  abbrev after_tables : List Function
-  after_tables = part_functions m m.reward ++ of_rewards ++ start_functions m
-
-  from-dds : Among (of_dds ++ of_tables ++ after_tables) (building_functions m)
-  from-dds = among-back constants (of_dds ++ of_tables ++ after_tables)
-
-  from-rewards : Among after_tables (building_functions m)
-  from-rewards = among-trans (among-back of_tables after_tables) (among-trans (among-back of_dds (of_tables ++ after_tables)) from-dds)
-
-  pub zero-among : Among (constant (pos 0) ∷ []) (building_functions m)
-  zero-among = among-in (inl refl)
-
-  pub dds-among : Among (flat_map (tree_functions m) m.dds) (building_functions m)
-  dds-among = among-trans (among-front of_dds (of_tables ++ after_tables)) from-dds
-
-  pub tables-among : Among (flat_map (λ a. flat_map (table_functions m a) (numbers_below (length m.vars))) m.actions) (building_functions m)
-  tables-among = among-trans (among-front of_tables after_tables) (among-trans (among-back of_dds (of_tables ++ after_tables)) from-dds)
-
-  parts-among : Among (part_functions m m.reward) (building_functions m)
-  parts-among = among-trans (among-front (part_functions m m.reward) (of_rewards ++ start_functions m)) from-rewards
-
-  rewards-among : Among (flat_map (reward_functions m) m.actions) (building_functions m)
-  rewards-among =
-      among-trans (among-front of_rewards (start_functions m)) (among-trans (among-back (part_functions m m.reward) (of_rewards ++ start_functions m)) from-rewards)
+  abbrev with_rewards : List Function
+  with_rewards = with_parts ++ of_rewards
 
   pub start-among : Among (start_functions m) (building_functions m)
-  start-among =
-      among-trans (among-back of_rewards (start_functions m)) (among-trans (among-back (part_functions m m.reward) (of_rewards ++ start_functions m)) from-rewards)
+  start-among = among-back with_rewards (start_functions m)
+
+  rewards-among : Among of_rewards (building_functions m)
+  rewards-among = among-trans (among-back with_parts of_rewards) (among-front with_rewards (start_functions m))
+
+  from-parts : Among with_parts (building_functions m)
+  from-parts = among-trans (among-front with_parts of_rewards) (among-front with_rewards (start_functions m))
+
+  parts-among : Among (part_functions m m.reward) (building_functions m)
+  parts-among = among-trans (among-back with_tables (part_functions m m.reward)) from-parts
+
+  from-tables : Among with_tables (building_functions m)
+  from-tables = among-trans (among-front with_tables (part_functions m m.reward)) from-parts
+
+  pub tables-among : Among (all_table_functions m) (building_functions m)
+  tables-among = among-trans (among-back with_dds of_tables) from-tables
+
+  pub dds-among : Among (flat_map (tree_functions m) m.dds) (building_functions m)
+  dds-among =
+      among-trans (among-back (constant (pos 0) ∷ constant one ∷ []) (flat_map (tree_functions m) m.dds)) (among-trans (among-front with_dds of_tables) from-tables)
+
+  zero-among : Among (constant (pos 0) ∷ []) (building_functions m)
+  zero-among = among-in (inl refl)
 
   -- the sum of parts, whose functions are among those of building
   sum-within : (trees : List Tree) → Among (part_functions m trees) (building_functions m) → Among (sum_functions m trees) (building_functions m)
@@ -111,6 +115,13 @@ module _ (m : Process) where
   pub part-fault : {fs : List Function} (s : Shown) (e : StoreFault) → Among fs (building_functions m) → FaultsAt e s fs → BuildCause m s (build_fault e)
   part-fault s F.Full a h = fault-wider F.Full s a h
   part-fault s F.Memory a h = tt
+
+  -- the same where weights are made
+  pub table-cause : (s : Shown) (e : BuildFault) → TableCause m s e → BuildCause m s e
+  table-cause s (Fault.Sum action var state sum) h = h
+  table-cause s (Fault.Range action state value) h = absurd h
+  table-cause s Fault.Full h = fault-wider F.Full s tables-among h
+  table-cause s Fault.Memory h = tt
 
   -- the same where an action's reward is made
   pub reward-fault : (a : ℕ × Action) (s : Shown) (e : StoreFault) → FaultsAt e s (building_functions m) → RewardCause m a s (build_fault e)
