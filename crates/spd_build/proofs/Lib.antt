@@ -4,3 +4,8 @@ pub mod TableLaws
 pub mod WeighingLaws
 pub mod PlaceLaws
 mod TableRows
+pub mod BuildingLaws
+pub mod RewardLaws
+pub mod StartLaws
+pub mod BuiltLaws
+pub mod RangeLaws

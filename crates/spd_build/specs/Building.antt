@@ -60,12 +60,6 @@ sum_functions m trees = constant (pos 0) ∷ flat_map (part_functions_at m trees
 abbrev pub net_functions : Process → Action → List Function
 net_functions m a = sum_functions m a.cost ++ reward m a ∷ []
 
--- whether a leaf is a number that passes the limit of rewards
-abbrev pub is_wide : Leaf → Bool
-is_wide (L.Num x) = not (nat_le (unsigned_abs x) reward_limit)
-is_wide (L.Pair x y) = false
-is_wide (L.Act x) = false
-
 -- ---- parts of building
 
 -- A call that is a part of building: it published nodes of the functions of building alone, and its fault has a cause.

@@ -2,6 +2,7 @@
 use Rattle.std.specs.Prelude.{◌≡◌, ℕ, List, map, ℤ, Some, None, Result, IfOk, IfErr}
 use Rattle.spd_model.specs.Process.{Process}
 use Rattle.spd_model.specs.Numbers.{greatest}
+use Rattle.spd_model.specs.Reduced.{Node}
 use Rattle.spd_model.specs.States.{sizes}
 use Rattle.spd_model.specs.Reduced.{Node}
 use Rattle.spd_model.specs.Chances.{reward_of, first_wrong_sum, first_wide_reward}
