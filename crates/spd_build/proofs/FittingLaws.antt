@@ -1,5 +1,5 @@
 -- Trees that fit a process of which the first decision diagrams are there: their parts, and the process's own trees.
-use Rattle.std.proofs.Common.{◌≡◌, ℕ, zero, suc, ◌<◌, ◌≤◌, Bool, List, [], ◌∷◌, ◌++◌, length, map, get_or, slice_index, take, drop, pos, refl, ap, sym, ◌∙◌, subst, arith, max, fold, All, append_assoc, append-nil, length-take}
+use Rattle.std.proofs.Common.{◌≡◌, ℕ, zero, suc, ◌<◌, ◌≤◌, Bool, List, [], ◌∷◌, ◌++◌, length, map, get_or, slice_index, take, drop, pos, ap, sym, ◌∙◌, subst, arith, max, fold, All, append_assoc, append-nil, length-take}
 use Rattle.std.specs.List.{AllZip}
 use Rattle.std.proofs.Math.Seq.{split_at}
 use Rattle.std.proofs.lemmas.List.{get_or-map, length-map, get_or-take, length-take-le, take_at, get_or_at}

@@ -5,3 +5,7 @@ pub mod RewardLaws
 pub mod StartLaws
 pub mod BuiltLaws
 pub mod RangeLaws
+pub mod TableLaws
+pub mod WeighingLaws
+pub mod PlaceLaws
+mod TableRows
