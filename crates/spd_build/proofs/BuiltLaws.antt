@@ -20,11 +20,10 @@ use Rattle.spd_build.specs.Built.{frozen_numbers}
 use Rattle.spd_build.specs.Functions.{reward, start}
 
 -- one entry more, in order
-pub image-more : {X Y : Type 0} (f : X → Y) (xs : List X) (i : ℕ) (x : X) (old new : List Y) (y : Y) → i < length xs → x ≡ get_or xs i x
-    → old ≡ map f (take i xs) → y ≡ f x → new ≡ old ++ y ∷ [] → new ≡ map f (take (i + 1) xs)
-image-more f xs i x old new y near is before own e =
-    e ∙ (λ k. before k ++ own k ∷ []) ∙ ap (λ z. map f (take i xs) ++ f z ∷ []) is
-    ∙ sym (ap (map f) (take_more xs i x near) ∙ map_push f (take i xs) (get_or xs i x))
+pub image-more : {X Y : Type 0} (f : X → Y) (xs : List X) (i : ℕ) (d : X) (old new : List Y) (y : Y) → i < length xs
+    → old ≡ map f (take i xs) → y ≡ f (get_or xs i d) → new ≡ old ++ y ∷ [] → new ≡ map f (take (i + 1) xs)
+image-more f xs i d old new y near before own e =
+    e ∙ (λ k. before k ++ own k ∷ []) ∙ sym (ap (map f) (take_more xs i d near) ∙ map_push f (take i xs) (get_or xs i d))
 
 -- the list of a number by present state
 pub numbers-list : (m : Process) (s : Shown) (r : Entry) (f : List ℕ → ℤ) → s.sizes ≡ sizes m → StandsFor s r (λ x t. Num (f x))

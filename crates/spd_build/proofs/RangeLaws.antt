@@ -3,7 +3,7 @@ use Rattle.std.proofs.Common.{◌≡◌, ℕ, ◌+◌, ◌<◌, ◌≤◌, take,
 use Rattle.std.specs.List.{enumerate_from}
 use Rattle.std.specs.Option.{option_map, option_or}
 use Rattle.std.proofs.lemmas.List.Folds.{find-append}
-use Rattle.std.proofs.lemmas.List.FromFn.{get_or-enumerate_from, length-enumerate_from}
+use Rattle.std.proofs.lemmas.List.FromFn.{length-enumerate_from}
 use Rattle.std.proofs.lemmas.List.Elements.{All-head, All-tail}
 use Rattle.spd_model.specs.declared.process.Action.{Action}
 use Rattle.spd_model.specs.Process.{Process}
@@ -24,6 +24,7 @@ use Rattle.spd_build.specs.Built.{BuildCause}
 use Rattle.spd_build.specs.Ranges.{is_wide, wide_after, RewardCause}
 use Rattle.spd_build.specs.declared.built.BuildFault.{BuildFault}
 use Rattle.spd_build.specs.declared.built.BuildFault.TheVariants as Fault
+use Rattle.spd_build.proofs.WeighingLaws.{enumerated}
 
 -- what was found in an action's reward, as a reward
 abbrev pub told : ℕ → Found → Reward
@@ -93,7 +94,7 @@ module _ (m : Process) (k : ℕ) (a : Action) (f : Function) (agree : Agree (siz
 module _ (m : Process) (k : ℕ) (a : Action) (near : k < length m.actions) (is : a ≡ get_or m.actions k a)
     (none : find passes_limit (flat_map (rewards_after m) (take k (enumerate_from 0 m.actions))) ≡ None) where
   numbered : get_or (enumerate_from 0 m.actions) k (k, a) ≡ (k, a)
-  numbered = let at : 0 + k ≡ k = omega arith in get_or-enumerate_from 0 m.actions k (k, a) near ∙ (λ i. (at i, sym is i))
+  numbered = sym (enumerated m.actions k a near is)
 
   counted : k < length (enumerate_from 0 m.actions)
   counted = omega (arith, length-enumerate_from 0 m.actions)

@@ -11,12 +11,11 @@ use Rattle.spd_model.specs.declared.tree.Tree.{Tree}
 use Rattle.spd_model.specs.declared.process.Action.{Action}
 use Rattle.spd_model.specs.Process.{Process}
 use Rattle.spd_model.specs.Numbers.{total}
-use Rattle.spd_model.specs.Lawful.{IsLawful, IsReward, IsAction, AreRewards, Fits, FitsReward}
+use Rattle.spd_model.specs.Lawful.{IsLawful, IsReward, IsAction, AreRewards, FitsReward}
 use Rattle.spd_model.specs.States.{IsState}
-use Rattle.spd_model.specs.Trees.{Part, number, choice, missing, parts, parts_of, read_tree, read_diagrams, value_of}
+use Rattle.spd_model.specs.Trees.{Part, number, choice, missing, parts_of, value_of}
 use Rattle.spd_model.proofs.CallerLemmas.Sums.{total_more}
 use Rattle.spd_model.proofs.CallerLemmas.TreeValues.{value_within, value_same, GoesAlike}
-use Rattle.spd_model.proofs.CallerLemmas.Trees.{length-read_diagrams}
 use Rattle.spd_nodes.specs.declared.leaf.Leaf.TheVariants.{Num}
 use Rattle.spd_nodes.specs.States.{Function, Agree}
 use Rattle.spd_nodes.specs.Shown.{Shown, StandsFor, meaning}
@@ -25,7 +24,7 @@ use Rattle.spd_apply.specs.Operations.{in_i128, num_of, num_fits}
 use Rattle.spd_apply.specs.Outcome.{FitEverywhere, at_each}
 use Rattle.spd_build.specs.Functions.{tree_function, part_sum, reward}
 use Rattle.spd_build.specs.Building.{net_reward, all_parts}
-use Rattle.spd_build.specs.Fitting.{FitsWith, StandForTrees}
+use Rattle.spd_build.specs.Fitting.{StandForTrees}
 
 -- ---- trees over all decision diagrams
 
@@ -35,11 +34,6 @@ module _ (s : Shown) (m : Process) (refs : List Entry) (stand : StandForTrees s 
 
   pub dds-first : StandForTrees s m (take (length refs) m.dds) refs
   dds-first = subst (λ l. StandForTrees s m l refs) (sym (take_all (length refs) m.dds (omega (arith, dds-count)))) stand
-
-  pub fits-all : (tree : Tree) → All (Fits m) (parts_of m tree) → FitsWith m (length refs) tree
-  fits-all tree h =
-      subst (λ l. All (Fits m) (read_tree parts l tree))
-      (sym (take_all (length refs) (read_diagrams parts [] m.dds) (omega (arith, dds-count, length-read_diagrams parts [] m.dds)))) h
 
 -- ---- numbers in range
 

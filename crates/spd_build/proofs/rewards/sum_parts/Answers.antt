@@ -9,7 +9,8 @@ use Rattle.spd_apply.proofs.CallerLemmas.{answers-grow}
 use Rattle.spd_build.specs.Functions.{tree_function, tree_functions}
 use Rattle.spd_build.specs.Building.{all_parts, sum_functions}
 use Rattle.spd_build.proofs.BuildingLaws.{among-in, tree-among, more-among}
-use Rattle.spd_build.proofs.RewardLaws.{dds-count, dds-first, fits-all, more-fits, more-agrees}
+use Rattle.spd_build.proofs.RewardLaws.{dds-count, dds-first, more-fits, more-agrees}
+use Rattle.spd_build.proofs.TableLaws.{fits-all}
 use Rattle.spd_build.proofs.rewards.sum_parts.Goals as goal
 
 pub returns-in_err-sum-clause-adds : goal.returns-in_err-sum-clause-adds
@@ -40,7 +41,8 @@ tree_of-requires-clause-fits g c =
     let m = c.args.model.now in
     let item = c.part-item.result in
     let own : IsReward m item = subst (IsReward m) (sym c.part-item.is) (All-get_or (IsReward m) c.args.parts.now c.loop-part.part-index item c.loop-part-test.true c.requires.parts.each) in
-    fits-all (g.F.Forest.shows c.args.forest.now) m c.args.dds.now c.requires.dds item own.form.fits
+    let count = dds-count (g.F.Forest.shows c.args.forest.now) m c.args.dds.now c.requires.dds in
+    fits-all m (length c.args.dds.now) item (omega (arith, count)) own.form.fits
 
 pub returns-in_err-tree-clause-made : goal.returns-in_err-tree-clause-made
 returns-in_err-tree-clause-made g c =
