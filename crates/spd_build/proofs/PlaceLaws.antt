@@ -1,5 +1,5 @@
 -- The first sum that isn't one: over all next states it is found where it is over the next values of the later variables alone.
-use Rattle.std.proofs.Common.{◌≡◌, ℕ, zero, suc, ◌<◌, Bool, true, false, not, cond, List, [], ◌∷◌, ◌++◌, length, map, flat_map, drop, find, slice_index, All, ℤ, pos, Option, Some, None, refl, ap, sym, ◌∙◌, subst, arith}
+use Rattle.std.proofs.Common.{◌≡◌, ℕ, zero, suc, ◌<◌, Bool, true, false, not, cond, List, [], ◌∷◌, ◌++◌, length, map, flat_map, drop, find, slice_index, All, ℤ, Option, Some, None, refl, ap, sym, ◌∙◌, arith}
 use Rattle.std.specs.Option.{option_map, option_or}
 use Rattle.std.specs.Ordering.{int_eq}
 use Rattle.std.proofs.lemmas.List.Elements.{All-head, All-tail, All-map}
@@ -11,15 +11,12 @@ use Rattle.spd_model.specs.Lawful.{IsLawful}
 use Rattle.spd_model.specs.Numbers.{numbers_below}
 use Rattle.spd_model.specs.States.{sizes, states, IsState}
 use Rattle.spd_model.specs.Chances.{Sum, one, sum_of}
-use Rattle.spd_model.proofs.CallerLemmas.Finds.{All-find}
 use Rattle.spd_model.proofs.CallerLemmas.Lists.{All-flat_map, length-numbers_below}
 use Rattle.spd_model.proofs.CallerLemmas.StateOrder.{All-states, sizes_some}
-use Rattle.spd_nodes.specs.declared.leaf.Leaf.{Leaf}
-use Rattle.spd_nodes.specs.declared.leaf.Leaf.TheVariants.{Num, Pair, Act}
 use Rattle.spd_nodes.specs.States.{Function, Agree}
 use Rattle.spd_frozen.specs.Told.{number_of}
 use Rattle.spd_search.specs.declared.found.Found.{Found}
-use Rattle.spd_search.specs.Found.{state_pairs, first_pair, found_at, first_found}
+use Rattle.spd_search.specs.Found.{state_pairs, found_at, first_found}
 use Rattle.spd_build.specs.Functions.{weight_sum}
 use Rattle.spd_build.specs.Tables.{first_wrong, is_wrong, variable_sums}
 
