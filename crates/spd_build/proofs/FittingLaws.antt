@@ -74,7 +74,7 @@ fits-branch m k var primed kids h =
 
 -- ---- entries that stand for trees
 
-stand-at : (s : Shown) (rs : List Entry) (fs : List Function) (i : ℕ) (d : Entry) (e : Function) → AllZip (StandsFor s) rs fs → i < length rs
+pub stand-at : (s : Shown) (rs : List Entry) (fs : List Function) (i : ℕ) (d : Entry) (e : Function) → AllZip (StandsFor s) rs fs → i < length rs
     → StandsFor s (get_or rs i d) (get_or fs i e)
 stand-at s [] fs i d e h near = absurd (omega arith)
 stand-at s (r ∷ rs) [] i d e h near = absurd h

@@ -2,8 +2,8 @@
 use Rattle.std.specs.Prelude.{◌≡◌, ℕ, List, map, ℤ, Some, None, Result, IfOk, IfErr}
 use Rattle.spd_model.specs.Process.{Process}
 use Rattle.spd_model.specs.Numbers.{greatest}
-use Rattle.spd_model.specs.States.{sizes}
 use Rattle.spd_model.specs.Reduced.{Node}
+use Rattle.spd_model.specs.States.{sizes}
 use Rattle.spd_model.specs.Chances.{reward_of, first_wrong_sum, first_wide_reward}
 use Rattle.spd_nodes.specs.declared.leaf.Leaf.{Leaf}
 use Rattle.spd_nodes.specs.declared.leaf.Leaf.TheVariants.{Num}

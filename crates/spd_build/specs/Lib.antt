@@ -3,3 +3,5 @@ pub mod Fitting
 pub mod Built
 pub mod Building
 pub mod Tables
+pub mod Ranges
+pub mod Drawn

@@ -5,10 +5,15 @@
 //! counted, are one definition, `building_functions`.
 #![tactic(auto)]
 
+mod building;
 mod built;
+mod drawing;
 mod lists;
+mod rewards;
+mod start;
 mod tables;
 mod trees;
 
+pub use building::build;
 pub use built::{BuildFault, Built};
 pub use trees::{dds_of, tree_of};
