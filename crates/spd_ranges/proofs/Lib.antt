@@ -1,0 +1,3 @@
+mod OrderLaws
+mod GroupLaws
+mod LeafLaws
