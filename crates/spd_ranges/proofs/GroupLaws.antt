@@ -115,7 +115,7 @@ swept-begins span m high (p ∷ ps) =
     (All-cons (Begins m (p ∷ ps)) (swept_from m high) (swept span (begun_by p) ps) (inl refl)
     (begins-later m p ps (swept span (begun_by p) ps) (swept-begins span p p.high ps)))
 
-abbrev InOrder : List Group → Type 0
+abbrev pub InOrder : List Group → Type 0
 InOrder gs = AllPairs (λ g h. stands_before g h ≡ true) gs
 
 pub swept-ordered : (span : ℤ) (m : Range) (high : ℤ) (ps : List Range) → Ascends (m ∷ ps) → InOrder (swept span (swept_from m high) ps)
@@ -240,13 +240,16 @@ last-some (x ∷ y ∷ gs) a g h e =
     let next : length (x ∷ y ∷ gs) - 1 ≡ suc (length (y ∷ gs) - 1) = omega arith in
     last-some (y ∷ gs) (Pair x.low x.high) g (omega arith) (e ∙ ap (λ k. get_or (x ∷ y ∷ gs) k g) next)
 
-pub point-none : (p : Range) (groups : List Group) (a : Leaf) (k : ℕ) → k ≤ length groups → IsPartitionPoint (λ g. begins_by p g ≡ true) (λ g. begins_by p g ≡ false) groups k
-    → length (take k groups) ≡ 0 → a ≡ last_begun groups p a
-point-none p groups a k h s e = sym (point p groups a k s.0 s.1 h ∙ last-none (take k groups) a e)
+-- the first groups, up to a place, begin by a range, and the others don't
+abbrev pub IsSplitAt : Range → List Group → ℕ → Type 0
+IsSplitAt p groups k = (k ≤ length groups) × IsPartitionPoint (λ g. begins_by p g ≡ true) (λ g. begins_by p g ≡ false) groups k
 
-pub point-some : (p : Range) (groups : List Group) (a : Leaf) (k : ℕ) (g : Group) → k ≤ length groups → IsPartitionPoint (λ g. begins_by p g ≡ true) (λ g. begins_by p g ≡ false) groups k
-    → 0 < length (take k groups) → g ≡ get_or (take k groups) (length (take k groups) - 1) g → Pair g.low g.high ≡ last_begun groups p a
-point-some p groups a k g h s n e = sym (point p groups a k s.0 s.1 h ∙ last-some (take k groups) a g n e)
+pub point-none : (p : Range) (groups : List Group) (a : Leaf) (k : ℕ) → IsSplitAt p groups k → length (take k groups) ≤ 0 → a ≡ last_begun groups p a
+point-none p groups a k s n = sym (point p groups a k s.1.0 s.1.1 s.0 ∙ last-none (take k groups) a (omega arith))
+
+pub point-some : (p : Range) (groups : List Group) (a : Leaf) (k : ℕ) (g : Group) → IsSplitAt p groups k → 0 < length (take k groups)
+    → g ≡ get_or (take k groups) (length (take k groups) - 1) g → Pair g.low g.high ≡ last_begun groups p a
+point-some p groups a k g s n e = sym (point p groups a k s.1.0 s.1.1 s.0 ∙ last-some (take k groups) a g n e)
 
 -- ---- ranges and values of groups
 

@@ -1,3 +1,5 @@
+mod BoundLaws
 mod OrderLaws
 mod GroupLaws
 mod LeafLaws
+mod SweepLaws

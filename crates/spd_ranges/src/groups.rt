@@ -42,13 +42,27 @@ impl Group {
         }
     }
 
-    /// Whether the group's range stays within a span with an upper end more.
-    fn takes(self, high: i128, span: i128) -> bool
+    /// Whether the group's range stays within a span with the next pair.
+    fn takes(self, next: Group, span: i128) -> bool
         requires { pos 0 ≤ℤ span }
-        ensures { result ≡ int_le (int_max self.high high) (self.low +ℤ span) }
+        ensures { result ≡ int_le (int_max self.high next.high) (self.low +ℤ span) }
     {
-        // No upper end is above the greatest `i128`, to which the sum is cut.
-        self.high.max(high) <= self.low.saturating_add(span)
+        match self.low.checked_add(span) {
+            Some(end) => self.high.max(next.high) <= end,
+            // The sum is above each `i128`.
+            None => true,
+        }
+    }
+
+    /// The group with the next pair.
+    fn joined(self, next: Group) -> Group
+        ensures { result ≡ record { low = self.low; first_high = self.first_high; high = int_max self.high next.high } }
+    {
+        Group {
+            low: self.low,
+            first_high: self.first_high,
+            high: self.high.max(next.high),
+        }
     }
 
     /// Whether the group begins with a range or before it.
@@ -118,8 +132,8 @@ pub(crate) fn join_pairs(
     let mut group = Group::of(*first);
     for pair in rest {
         let next = Group::of(*pair);
-        if group.takes(next.high, span) {
-            group.high = group.high.max(next.high);
+        if group.takes(next, span) {
+            group = group.joined(next);
         } else {
             groups.push(group)?;
             group = next;
