@@ -19,7 +19,7 @@ use Rattle.spd_ranges.proofs.OrderLaws.{Ascends, Contains-cases, Contains-here, 
 use Rattle.spd_ranges.proofs.GroupLaws.{Rises, found, groups-rise, own-group}
 
 -- a member of a list of which all are something is it
-All-at : {X : Type 0} (P : X → Type 0) (xs : List X) (x : X) → All P xs → Contains xs x → P x
+pub All-at : {X : Type 0} (P : X → Type 0) (xs : List X) (x : X) → All P xs → Contains xs x → P x
 All-at P xs x h (i, l, e) = subst P e (h i x l)
 
 Contains-flat : {X Y : Type 0} (f : X → List Y) (xs : List X) (x : X) (y : Y) → Contains xs x → Contains (f x) y → Contains (flat_map f xs) y
@@ -29,7 +29,7 @@ Contains-flat f (z ∷ xs) x y m n = elim (Contains-cases x z xs m) [
   | inr k ↦ Contains-append_right (f z) (flat_map f xs) y (Contains-flat f xs x y k n)
 ]
 
-Contains-state : (sizes s : List ℕ) → IsState sizes s → Contains (states sizes) s
+pub Contains-state : (sizes s : List ℕ) → IsState sizes s → Contains (states sizes) s
 Contains-state sizes s i =
     let near : rank sizes s < length (states sizes) = omega (arith, rank_below sizes s i, length-states sizes) in
     (rank sizes s, near, get_or-default s near ∙ get_or-states sizes s i)

@@ -3,3 +3,5 @@ mod OrderLaws
 mod GroupLaws
 mod LeafLaws
 mod SweepLaws
+mod MergeLaws
+mod TurnLaws
