@@ -100,10 +100,12 @@ module _ (s : Shown) (o : IsSound s) (low high : Entry) (fit : FitEverywhere at_
     pairs-range = stands-ranges t r pairs-are m.ok (subst (λ (z : List ℕ). AreRanges z pairs-are) (sym m.grows.sizes) (paired-ranges s low high fit))
 
     ranges-agree : Agree t.sizes (group_ranges t.sizes span (meaning t r)) ranges-are
-    ranges-agree = record { at = λ x y i j.
-        ap (λ gs. range_leaf gs (meaning t r x y)) (groups-agree t.sizes span (meaning t r) pairs-are m.ok.value)
-        ∙ ap (range_leaf (groups_over t.sizes span pairs-are)) (m.ok.value.at x y i j)
-        ∙ ap (λ (z : List ℕ). range_leaf (groups_over z span pairs-are) (pairs-are x y)) m.grows.sizes }
+    ranges-agree = record {
+      at = λ x y i j.
+          ap (λ gs. range_leaf gs (meaning t r x y)) (groups-agree t.sizes span (meaning t r) pairs-are m.ok.value)
+          ∙ ap (range_leaf (groups_over t.sizes span pairs-are)) (m.ok.value.at x y i j)
+          ∙ ap (λ (z : List ℕ). range_leaf (groups_over z span pairs-are) (pairs-are x y)) m.grows.sizes;
+    }
 
     module _ (v : Shown) where
       abbrev MakesRanges : Result Entry StoreFault → Type 0
@@ -130,9 +132,11 @@ module _ (s : Shown) (o : IsSound s) (low high : Entry) (fit : FitEverywhere at_
         ranges-range = stands-ranges v q ranges-are ranges-own.ok (λ x y i j. group-is_range s.sizes span pairs-are (paired-ranges s low high fit) (pairs-are x y))
 
         values-agree : Agree v.sizes (map_each middle_leaf (meaning v q)) values-are
-        values-agree = record { at = λ x y i j.
-            ap middle_leaf (ranges-own.ok.value.at x y i j)
-            ∙ ap Num (sym (value-middle (groups_over s.sizes span pairs-are) (range_at (pairs-are x y)))) }
+        values-agree = record {
+          at = λ x y i j.
+              ap middle_leaf (ranges-own.ok.value.at x y i j)
+              ∙ ap Num (sym (value-middle (groups_over s.sizes span pairs-are) (range_at (pairs-are x y))));
+        }
 
         module _ (u : Shown) where
           abbrev MakesValues : Result Entry StoreFault → Type 0

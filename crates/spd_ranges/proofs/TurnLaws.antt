@@ -52,15 +52,19 @@ module _ (m : Process) (w : List ℤ) (span : ℤ) (s : Shown) (low high : Entry
           subst (λ a. Contains (ranges_over s.sizes pairs) (range_at a)) (pairs-agree.at x x here here) (over-has s.sizes pairs x x here here)
 
   ranges-agree : Agree s.sizes (group_ranges s.sizes span pairs) (turn_ranges m span w)
-  ranges-agree = record { at = λ x y i j.
-      ap (λ gs. pair_at (range_in gs (range_at (pairs x y)))) same-groups
-      ∙ ap (λ a. pair_at (range_in (groups_of span (in_order all)) (range_at a))) (pairs-agree.at x y i j) }
+  ranges-agree = record {
+    at = λ x y i j.
+        ap (λ gs. pair_at (range_in gs (range_at (pairs x y)))) same-groups
+        ∙ ap (λ a. pair_at (range_in (groups_of span (in_order all)) (range_at a))) (pairs-agree.at x y i j);
+  }
 
   values-agree : Agree s.sizes (group_values s.sizes span pairs) (turn_values m span w)
-  values-agree = record { at = λ x y i j.
-      ap (λ gs. Num (value_in gs (range_at (pairs x y)))) same-groups
-      ∙ ap (λ a. Num (value_in (groups_of span (in_order all)) (range_at a))) (pairs-agree.at x y i j)
-      ∙ ap Num (sym (at-map (turn_range m w x) (sizes m) (turn_range m w) (value_in (groups_of span (in_order all))) x (own x i))) }
+  values-agree = record {
+    at = λ x y i j.
+        ap (λ gs. Num (value_in gs (range_at (pairs x y)))) same-groups
+        ∙ ap (λ a. Num (value_in (groups_of span (in_order all)) (range_at a))) (pairs-agree.at x y i j)
+        ∙ ap Num (sym (at-map (turn_range m w x) (sizes m) (turn_range m w) (value_in (groups_of span (in_order all))) x (own x i)));
+  }
 
   pub merges-turn : (t : Shown) → IsSound s → (result : Result Ranged StoreFault) → Merges s t span (meaning s low) (meaning s high) result → MergesTurn m span w s t result
   merges-turn t o result h =

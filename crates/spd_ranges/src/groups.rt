@@ -115,11 +115,7 @@ impl LeafMap for Grouping {
 
 /// The groups of distinct pairs in order, as the merge rule joins them. A group takes each next pair as long as the greatest upper
 /// end, that pair's included, is at most the group's lower end plus `span`. The error is want of memory.
-pub(crate) fn join_pairs(
-    alloc: Global,
-    pairs: &[Leaf],
-    span: i128,
-) -> Result<Grouping, AllocError>
+pub(crate) fn join_pairs(alloc: Global, pairs: &[Leaf], span: i128) -> Result<Grouping, AllocError>
     requires ranges { All (λ a. is_range a ≡ true) pairs.now }
     requires ordered { AllPairs (λ a b. leaf_before a b ≡ true) pairs.now }
     requires span { pos 0 ≤ℤ span }

@@ -46,5 +46,5 @@ pub invariant_of-result-2 : goal.invariant_of-result-2
 invariant_of-result-2 c =
     let far : length c.in-Some.rest.now ≤ c.loop-pair.pair-index = omega arith in
     let is = c.in_ok-push-2.ensures.items
-        ∙ sweep-last c.args.span c.loop-pair.groups.items c.loop-pair.group c.in-Some.rest.now c.loop-pair.pair-index (to_z-of_z w128 c.args.span c.ranges.span) far c.args.pairs.now c.loop-pair.invariant in
+    ∙ sweep-last c.args.span c.loop-pair.groups.items c.loop-pair.group c.in-Some.rest.now c.loop-pair.pair-index (to_z-of_z w128 c.args.span c.ranges.span) far c.args.pairs.now c.loop-pair.invariant in
     record { in_order = subst InOrder (sym is) (told-ordered c.args.span c.args.pairs.now c.requires.ranges c.requires.ordered) }
