@@ -1,5 +1,5 @@
 -- Groups of ranges in order: a sweep makes them, and a search among their first ranges finds the group of a range.
-use Rattle.std.proofs.Common.{◌≡◌, ◌⊎◌, inl, inr, ℕ, zero, suc, ◌+◌, ◌-◌, ◌<◌, ◌≤◌, Bool, true, false, ◌&&◌, ◌||◌, ℤ, pos, ◌+ℤ◌, List, [], ◌∷◌, ◌++◌, map, take, get_or, length, refl, sym, ap, ◌∙◌, subst, arith, true≢false}
+use Rattle.std.proofs.Common.{◌≡◌, ◌⊎◌, inl, inr, ℕ, zero, suc, ◌-◌, ◌<◌, ◌≤◌, Bool, true, false, ◌&&◌, ◌||◌, ℤ, pos, ◌+ℤ◌, List, [], ◌∷◌, ◌++◌, map, take, get_or, length, refl, sym, ap, ◌∙◌, subst, arith, true≢false}
 use Rattle.std.specs.Prelude.{int_lt, int_le, Contains, AllPairs, All}
 use Rattle.std.specs.Bool.{if◌then◌else◌}
 use Rattle.std.specs.Int.{int_max}
@@ -12,13 +12,13 @@ use Rattle.std.proofs.lemmas.Int.{ints}
 use Rattle.std.proofs.lemmas.List.Elements.{All-nil, All-cons, All-weaker, Contains-append_left, Contains-push, Contains-push_cases}
 use Rattle.std.proofs.lemmas.List.Kept.{AllPairs-cons}
 use Rattle.spd_scaled.specs.Scaled.{floor_div}
-use Rattle.spd_model.specs.Ranges.{Range, Group as Merged, is_same, is_before, joined, group_of, groups_from, groups_of, middle_of, value_in}
+use Rattle.spd_model.specs.Ranges.{Range, Group as Merged, is_same, is_before, group_of, groups_from, groups_of, value_in}
 use Rattle.spd_nodes.specs.declared.leaf.Leaf.{Leaf}
-use Rattle.spd_nodes.specs.declared.leaf.Leaf.TheVariants.{Num, Pair, Act}
+use Rattle.spd_nodes.specs.declared.leaf.Leaf.TheVariants.{Pair}
 use Rattle.spd_ranges.specs.declared.groups.Group.{Group}
 use Rattle.spd_ranges.specs.Merging.{pair_at, range_in}
 use Rattle.spd_ranges.specs.Groups.{begins_by, begun_by, first_of, last_begun, stands_before, told_by}
-use Rattle.spd_ranges.proofs.OrderLaws.{Ascends, Contains-cases, Contains-here, Contains-later, Contains-none, before-flip, before-apart, same-itself, same-range}
+use Rattle.spd_ranges.proofs.OrderLaws.{Ascends, Contains-cases, Contains-here, Contains-later, Contains-none, before-apart, same-itself}
 
 -- the groups that a sweep over ranges makes, after a group is begun
 abbrev pub swept : ℤ → Group → List Range → List Group

@@ -1,5 +1,5 @@
 -- The ranges of a function of pairs, and of the list of its leaves.
-use Rattle.std.proofs.Common.{◌≡◌, ◌⊎◌, inl, inr, ℕ, zero, suc, ◌+◌, ◌<◌, Bool, true, false, ℤ, pos, List, [], ◌∷◌, map, get_or, length, refl, sym, ap, ◌∙◌, subst, arith, true≢false, All}
+use Rattle.std.proofs.Common.{◌≡◌, inl, inr, ℕ, suc, ◌<◌, true, ℤ, pos, List, [], ◌∷◌, map, get_or, length, refl, sym, ap, ◌∙◌, subst, arith, true≢false, All}
 use Rattle.std.specs.Prelude.{Contains, AllPairs}
 use Rattle.std.specs.List.{flat_map}
 use Rattle.std.proofs.lemmas.List.Elements.{All-head, All-tail, Contains-append_left, Contains-append_right, Contains-get_or}
@@ -13,7 +13,7 @@ use Rattle.spd_nodes.specs.declared.leaf.Leaf.TheVariants.{Num, Pair, Act}
 use Rattle.spd_nodes.specs.States.{Function, Agree}
 use Rattle.spd_apply.specs.Leaves.{AreLeavesOf, IsTaken, leaf_before}
 use Rattle.spd_ranges.specs.declared.groups.Group.{Group}
-use Rattle.spd_ranges.specs.Merging.{range_at, pair_at, ranges_over, groups_over, range_in, range_leaf}
+use Rattle.spd_ranges.specs.Merging.{range_at, pair_at, ranges_over, groups_over, range_leaf}
 use Rattle.spd_ranges.specs.Groups.{Finds, found_in, is_range, last_begun, told_by}
 use Rattle.spd_ranges.proofs.OrderLaws.{Ascends, Contains-cases, Contains-here, Contains-later, Contains-none, in_order-ascends, in_order-has, in_order-is, in_order-only, in_order-same}
 use Rattle.spd_ranges.proofs.GroupLaws.{Rises, found, groups-rise, own-group}

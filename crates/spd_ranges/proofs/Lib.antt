@@ -5,3 +5,4 @@ mod LeafLaws
 mod SweepLaws
 mod MergeLaws
 mod TurnLaws
+mod Rows

@@ -1,5 +1,5 @@
 -- What a merge makes.
-use Rattle.std.proofs.Common.{◌≡◌, inl, inr, ℕ, Bool, true, false, ℤ, pos, ◌≤ℤ◌, List, [], ◌∷◌, All, refl, sym, ap, ◌∙◌, subst, true≢false, Result, Ok, Err, IfOk, IfErr}
+use Rattle.std.proofs.Common.{◌≡◌, inl, inr, ℕ, true, ℤ, pos, List, [], ◌∷◌, refl, sym, ap, ◌∙◌, subst, true≢false, Result, Ok, Err, IfOk, IfErr}
 use Rattle.spd_cons_core.specs.declared.key.Entry.{Entry}
 use Rattle.spd_nodes.specs.declared.leaf.Leaf.{Leaf}
 use Rattle.spd_nodes.specs.declared.leaf.Leaf.TheVariants.{Num, Pair, Act}
@@ -10,10 +10,10 @@ use Rattle.spd_nodes.specs.Made.{HasMade}
 use Rattle.spd_model.specs.States.{IsState}
 use Rattle.spd_nodes.proofs.CallerLemmas.{Among, IsIn, diagram-agrees, grows-then, has-made, has-none, has-then, has-wider, makes_among-known, part-failed, positive-slots, stands-for, stands-grows, test_tree-agree, within-in}
 use Rattle.spd_apply.specs.Operations.{are_nums, is_pair, pair_of}
-use Rattle.spd_apply.specs.Outcome.{FitEverywhere, FitsEverywhere, at_each, map_each}
+use Rattle.spd_apply.specs.Outcome.{FitEverywhere, FitsEverywhere, map_each}
 use Rattle.spd_ranges.specs.declared.groups.Group.{Group}
 use Rattle.spd_ranges.specs.declared.merging.Ranged.{Ranged}
-use Rattle.spd_ranges.specs.Merging.{AreRanged, MakesRanged, at_most, paired, range_at, pair_at, range_in, range_leaf, value_leaf, groups_over, group_ranges, group_values}
+use Rattle.spd_ranges.specs.Merging.{AreRanged, MakesRanged, at_most, paired, range_at, range_leaf, groups_over, group_ranges, group_values}
 use Rattle.spd_ranges.specs.Groups.{Finds, found_in, is_range, middle_leaf}
 use Rattle.spd_ranges.proofs.GroupLaws.{value-middle}
 use Rattle.spd_ranges.proofs.LeafLaws.{AreRanges, group-is_range, groups-agree, own-range}

@@ -1,5 +1,5 @@
 -- One sweep over pairs in order makes their groups.
-use Rattle.std.proofs.Common.{◌≡◌, ℕ, ◌+◌, ◌<◌, ◌≤◌, true, false, ℤ, ◌+ℤ◌, List, [], ◌∷◌, ◌++◌, map, drop, get_or, length, refl, sym, ap, ◌∙◌, subst, arith}
+use Rattle.std.proofs.Common.{◌≡◌, ℕ, ◌+◌, ◌<◌, ◌≤◌, true, false, ℤ, ◌+ℤ◌, List, [], ◌∷◌, ◌++◌, map, drop, get_or, length, sym, ap, ◌∙◌, subst, arith}
 use Rattle.std.specs.Prelude.{int_le, All, AllPairs}
 use Rattle.std.specs.Int.{int_max}
 use Rattle.std.proofs.lemmas.List.{append_assoc, drop_all, drop_more}

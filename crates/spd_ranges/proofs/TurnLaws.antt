@@ -1,11 +1,11 @@
 -- A merge of a process's greatest bounds gives the value of the next turn.
-use Rattle.std.proofs.Common.{◌≡◌, ◌<◌, ℕ, ℤ, pos, List, map, get_or, length, refl, sym, ap, ◌∙◌, subst, arith, All}
+use Rattle.std.proofs.Common.{◌≡◌, ◌<◌, ℕ, ℤ, pos, List, map, length, refl, sym, ap, ◌∙◌, subst, arith}
 use Rattle.std.specs.Prelude.{Contains}
-use Rattle.std.proofs.lemmas.List.{get_or-map, length-map}
+use Rattle.std.proofs.lemmas.List.{get_or-map}
 use Rattle.spd_model.specs.Process.{Process}
 use Rattle.spd_model.specs.States.{IsState, sizes, states, table_of, rank, at}
-use Rattle.spd_model.specs.Ranges.{Range, Group as Merged, groups_of, in_order, value_in, merged}
-use Rattle.spd_model.specs.Turns.{ranges_of, next_of}
+use Rattle.spd_model.specs.Ranges.{Range, groups_of, in_order, value_in}
+use Rattle.spd_model.specs.Turns.{ranges_of}
 use Rattle.spd_model.proofs.CallerLemmas.Lists.{Contains-map}
 use Rattle.spd_model.proofs.CallerLemmas.StateOrder.{All-table_of, get_or-states, get_or-table_of, length-table_of, rank_below}
 use Rattle.spd_cons_core.specs.declared.key.Entry.{Entry}

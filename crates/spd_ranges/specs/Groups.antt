@@ -1,5 +1,5 @@
 -- Groups of ranges in order, each told by its first range and its greatest upper end.
-use Rattle.std.specs.Prelude.{◌≡◌, ℕ, Bool, true, false, ◌||◌, ◌&&◌, if◌then◌else◌, List, [], ◌∷◌, ℤ, pos, ◌+ℤ◌, int_le, int_lt}
+use Rattle.std.specs.Prelude.{◌≡◌, ℕ, Bool, false, ◌||◌, ◌&&◌, if◌then◌else◌, List, [], ◌∷◌, ℤ, pos, ◌+ℤ◌, int_le, int_lt}
 use Rattle.std.specs.Ordering.{int_eq}
 use Rattle.spd_scaled.specs.Scaled.{floor_div}
 use Rattle.spd_model.specs.Ranges.{Range, is_before}

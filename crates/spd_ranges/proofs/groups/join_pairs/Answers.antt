@@ -1,13 +1,12 @@
-use Rattle.std.proofs.Common.{◌≡◌, ◌∙◌, ◌++◌, ◌∷◌, [], ◌≤◌, ℤ, ◌+ℤ◌, ℕ, List, true, false, sym, ap, subst, get_or, length, map, to_z, of_z, arith, pos}
+use Rattle.std.proofs.Common.{◌≡◌, ◌∙◌, ◌≤◌, ℤ, ◌+ℤ◌, ℕ, List, true, false, sym, subst, get_or, length, to_z, of_z, arith, pos}
 use mir.Syntax.{w128}
 use Rattle.std.specs.Prelude.{int_le}
 use Rattle.std.specs.Int.{int_max}
 use Rattle.std.proofs.lemmas.Int.{to_z-of_z}
-use Rattle.spd_model.specs.Ranges.{groups_of}
 use Rattle.spd_nodes.specs.declared.leaf.Leaf.{Leaf}
 use Rattle.spd_nodes.specs.declared.leaf.Leaf.TheVariants.{Num}
 use Rattle.spd_ranges.specs.Merging.{range_at}
-use Rattle.spd_ranges.specs.Groups.{begun_by, stands_before, told_by}
+use Rattle.spd_ranges.specs.Groups.{begun_by}
 use Rattle.spd_ranges.specs.declared.groups.Group.{Group}
 use Rattle.spd_ranges.proofs.GroupLaws.{InOrder}
 use Rattle.spd_ranges.proofs.SweepLaws.{sweep-first, sweep-takes, sweep-ends, sweep-last, told-ordered}

@@ -1,4 +1,4 @@
-use Rattle.std.proofs.Common.{◌≡◌, sym, subst, Ok, Err, to_z, of_z}
+use Rattle.std.proofs.Common.{sym, subst, Ok, Err}
 use mir.Syntax.{w128}
 use Rattle.std.proofs.lemmas.Int.{to_z-of_z}
 use Rattle.spd_model.proofs.CallerLemmas.Results.{err_is}

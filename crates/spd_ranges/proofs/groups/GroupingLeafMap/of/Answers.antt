@@ -1,5 +1,5 @@
-use Rattle.std.proofs.Common.{◌≡◌, ◌<◌, ◌≤◌, ◌-◌, ℕ, List, take, get_or, length, sym, subst, ap, ◌∙◌, rules, of_calls, true, false}
-use Rattle.std.specs.List.Sorted.{IsPartitionedBy, IsPartitionPoint}
+use Rattle.std.proofs.Common.{◌≡◌, ◌<◌, ◌≤◌, ◌-◌, ℕ, List, take, get_or, length, sym, subst, ap, ◌∙◌, rules, of_calls}
+use Rattle.std.specs.List.Sorted.{IsPartitionedBy}
 use Rattle.std.proofs.lemmas.Fn.{always_returns_same}
 use Rattle.spd_model.specs.Ranges.{Range}
 use Rattle.spd_nodes.specs.declared.leaf.Leaf.TheVariants.{Pair}
