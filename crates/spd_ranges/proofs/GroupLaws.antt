@@ -17,7 +17,7 @@ use Rattle.spd_nodes.specs.declared.leaf.Leaf.{Leaf}
 use Rattle.spd_nodes.specs.declared.leaf.Leaf.TheVariants.{Pair}
 use Rattle.spd_ranges.specs.declared.groups.Group.{Group}
 use Rattle.spd_ranges.specs.Merging.{pair_at, range_in}
-use Rattle.spd_ranges.specs.Groups.{begins_by, begun_by, first_of, last_begun, stands_before, told_by}
+use Rattle.spd_ranges.specs.inner.Groups.{begins_by, begun_by, first_of, last_begun, stands_before, told_by}
 use Rattle.spd_ranges.proofs.OrderLaws.{Ascends, Contains-cases, Contains-here, Contains-later, Contains-none, before-apart, same-itself}
 
 -- the groups that a sweep over ranges makes, after a group is begun

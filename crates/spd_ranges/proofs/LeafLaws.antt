@@ -2,7 +2,7 @@
 use Rattle.std.proofs.Common.{◌≡◌, inl, inr, ℕ, suc, ◌<◌, true, ℤ, pos, List, [], ◌∷◌, map, get_or, length, refl, sym, ap, ◌∙◌, subst, arith, true≢false, All}
 use Rattle.std.specs.Prelude.{Contains, AllPairs}
 use Rattle.std.specs.List.{flat_map}
-use Rattle.std.proofs.lemmas.List.Elements.{All-head, All-tail, Contains-append_left, Contains-append_right, Contains-get_or}
+use Rattle.std.proofs.lemmas.List.Elements.{All-contains, All-head, All-tail, Contains-append_left, Contains-append_right, Contains-get_or}
 use Rattle.std.proofs.lemmas.List.{get_or_default}
 use Rattle.spd_model.specs.States.{IsState, states, table_of, rank}
 use Rattle.spd_model.specs.Ranges.{Range, is_before, in_order, groups_of}
@@ -14,13 +14,9 @@ use Rattle.spd_nodes.specs.States.{Function, Agree}
 use Rattle.spd_apply.specs.Leaves.{AreLeavesOf, IsTaken, leaf_before}
 use Rattle.spd_ranges.specs.declared.groups.Group.{Group}
 use Rattle.spd_ranges.specs.Merging.{range_at, pair_at, ranges_over, groups_over, range_leaf}
-use Rattle.spd_ranges.specs.Groups.{Finds, found_in, is_range, last_begun, told_by}
+use Rattle.spd_ranges.specs.inner.Groups.{Finds, found_in, is_range, last_begun, told_by}
 use Rattle.spd_ranges.proofs.OrderLaws.{Ascends, Contains-cases, Contains-here, Contains-later, Contains-none, in_order-ascends, in_order-has, in_order-is, in_order-only, in_order-same}
 use Rattle.spd_ranges.proofs.GroupLaws.{Rises, found, groups-rise, own-group}
-
--- a member of a list of which all are something is it
-pub All-at : {X : Type 0} (P : X → Type 0) (xs : List X) (x : X) → All P xs → Contains xs x → P x
-All-at P xs x h (i, l, e) = subst P e (h i x l)
 
 Contains-flat : {X Y : Type 0} (f : X → List Y) (xs : List X) (x : X) (y : Y) → Contains xs x → Contains (f x) y → Contains (flat_map f xs) y
 Contains-flat f [] x y m n = Contains-none x m
@@ -47,7 +43,7 @@ over-has sizes f s t i j =
 -- what holds of the range at all states holds of each of them
 pub over-each : (P : Range → Type 0) (sizes : List ℕ) (f : Function) → ((s t : List ℕ) → IsState sizes s → IsState sizes t → P (range_at (f s t))) → (p : Range) → Contains (ranges_over sizes f) p → P p
 over-each P sizes f h p n =
-    All-at P (ranges_over sizes f) p
+    All-contains P (ranges_over sizes f) p
     (All-flat_map P (λ s. table_of sizes (λ t. range_at (f s t))) (states sizes)
     (All-states (λ s. All P (table_of sizes (λ t. range_at (f s t)))) sizes (λ s i. All-table_of P sizes (λ t. range_at (f s t)) (λ t j. h s t i j)))) n
 

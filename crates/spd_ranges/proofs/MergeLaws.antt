@@ -14,7 +14,7 @@ use Rattle.spd_apply.specs.Outcome.{FitEverywhere, FitsEverywhere, map_each}
 use Rattle.spd_ranges.specs.declared.groups.Group.{Group}
 use Rattle.spd_ranges.specs.declared.merging.Ranged.{Ranged}
 use Rattle.spd_ranges.specs.Merging.{AreRanged, MakesRanged, at_most, paired, range_at, range_leaf, groups_over, group_ranges, group_values}
-use Rattle.spd_ranges.specs.Groups.{Finds, found_in, is_range, middle_leaf}
+use Rattle.spd_ranges.specs.inner.Groups.{Finds, found_in, is_range, middle_leaf}
 use Rattle.spd_ranges.proofs.GroupLaws.{value-middle}
 use Rattle.spd_ranges.proofs.LeafLaws.{AreRanges, group-is_range, groups-agree, own-range}
 

@@ -5,7 +5,7 @@ use Rattle.spd_nodes.specs.declared.leaf.Leaf.{Leaf}
 use Rattle.spd_nodes.specs.declared.leaf.Leaf.TheVariants.{Num, Pair}
 use Rattle.spd_nodes.specs.States.{Function}
 use Rattle.spd_ranges.specs.Merging.{at_most, groups_over, group_ranges, group_values, paired}
-use Rattle.spd_ranges.specs.Groups.{found_in, middle_leaf, told_by}
+use Rattle.spd_ranges.specs.inner.Groups.{found_in, middle_leaf, told_by}
 
 abbrev sizes : List ℕ
 sizes = 3 ∷ []

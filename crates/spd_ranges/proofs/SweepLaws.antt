@@ -7,7 +7,7 @@ use Rattle.spd_model.specs.Ranges.{Range, groups_of}
 use Rattle.spd_nodes.specs.declared.leaf.Leaf.{Leaf}
 use Rattle.spd_ranges.specs.declared.groups.Group.{Group}
 use Rattle.spd_ranges.specs.Merging.{range_at}
-use Rattle.spd_ranges.specs.Groups.{begun_by, is_range, told_by}
+use Rattle.spd_ranges.specs.inner.Groups.{begun_by, is_range, told_by}
 use Rattle.spd_apply.specs.Leaves.{leaf_before}
 use Rattle.spd_ranges.proofs.GroupLaws.{InOrder, swept, swept-all, swept-ends, swept-ordered, swept-takes}
 use Rattle.spd_ranges.proofs.LeafLaws.{leaves-ascend}

@@ -2,6 +2,7 @@
 use Rattle.std.proofs.Common.{◌≡◌, ◌<◌, ℕ, ℤ, pos, List, map, length, refl, sym, ap, ◌∙◌, subst, arith}
 use Rattle.std.specs.Prelude.{Contains}
 use Rattle.std.proofs.lemmas.List.{get_or-map}
+use Rattle.std.proofs.lemmas.List.Elements.{All-contains}
 use Rattle.spd_model.specs.Process.{Process}
 use Rattle.spd_model.specs.States.{IsState, sizes, states, table_of, rank, at}
 use Rattle.spd_model.specs.Ranges.{Range, groups_of, in_order, value_in}
@@ -17,7 +18,7 @@ use Rattle.std.proofs.Common.{Result}
 use Rattle.spd_ranges.specs.declared.merging.Ranged.{Ranged}
 use Rattle.spd_ranges.specs.Merging.{HaveBest, Merges, MergesTurn, group_ranges, group_values, groups_over, pair_at, paired, range_at, range_in, ranges_over, turn_pairs, turn_range, turn_ranges, turn_values}
 use Rattle.spd_ranges.proofs.OrderLaws.{in_order-same}
-use Rattle.spd_ranges.proofs.LeafLaws.{All-at, Contains-state, over-each, over-has}
+use Rattle.spd_ranges.proofs.LeafLaws.{Contains-state, over-each, over-has}
 use Rattle.spd_ranges.proofs.MergeLaws.{ranged-agrees}
 
 -- what a map of a table has at a state
@@ -44,7 +45,7 @@ module _ (m : Process) (w : List ℤ) (span : ℤ) (s : Shown) (low high : Entry
   same-groups =
       ap (groups_of span) (in_order-same (ranges_over s.sizes pairs) all
       (over-each (λ p. Contains all p) s.sizes pairs (λ x y i j. subst (λ a. Contains all (range_at a)) (sym (pairs-agree.at x y i j)) (Contains-map (turn_range m w) (states (sizes m)) x (Contains-state (sizes m) x (own x i)))))
-      (λ p n. All-at (λ q. Contains (ranges_over s.sizes pairs) q) all p (All-table_of (λ q. Contains (ranges_over s.sizes pairs) q) (sizes m) (turn_range m w) each) n))
+      (λ p n. All-contains (λ q. Contains (ranges_over s.sizes pairs) q) all p (All-table_of (λ q. Contains (ranges_over s.sizes pairs) q) (sizes m) (turn_range m w) each) n))
     where
       each : (x : List ℕ) → IsState (sizes m) x → Contains (ranges_over s.sizes pairs) (turn_range m w x)
       each x i =

@@ -8,7 +8,7 @@ ghost use Rattle.spd_nodes.specs.declared.leaf.Leaf.TheVariants.{Pair};
 ghost use Rattle.spd_apply.specs.Leaves.{leaf_before};
 ghost use Rattle.spd_apply.specs.Operations.{is_pair};
 ghost use Rattle.spd_ranges.specs.Merging.{range_at};
-ghost use Rattle.spd_ranges.specs.Groups.{begun_by, begins_by, found_in, is_range, stands_before, told_by};
+ghost use Rattle.spd_ranges.specs.inner.Groups.{begun_by, begins_by, found_in, is_range, stands_before, told_by};
 
 use spd_apply::LeafMap;
 use spd_nodes::Leaf;

@@ -5,7 +5,7 @@ ghost use Rattle.spd_model.specs.Process.{Process};
 ghost use Rattle.spd_nodes.specs.Shown.{Shown, IsSound, IsWhole, MakesDiagram, meaning};
 ghost use Rattle.spd_apply.specs.Outcome.{FitEverywhere, FitsEverywhere};
 ghost use Rattle.spd_ranges.specs.Merging.{at_most, paired, group_ranges, groups_over, Merges, HaveBest, MergesTurn};
-ghost use Rattle.spd_ranges.specs.Groups.{is_range, Finds};
+ghost use Rattle.spd_ranges.specs.inner.Groups.{is_range, Finds};
 
 use crate::groups::{Grouping, join_pairs};
 use crate::middle::Middle;
@@ -101,10 +101,12 @@ fn range_of<F: Forest, L: Ledger>(
 ///
 /// The distinct pairs of bounds are taken in order, by the lower and then by the upper one. A group takes each next pair as long as the
 /// greatest upper end, that pair's included, is at most the lower end of the group's first pair plus `span`, in units of 10^-9. Each
-/// state gets the middle of its group's range, rounded down. With span 0 each pair is a group of its own.
+/// state gets the middle of its group's range, rounded down. With span 0 each pair is a group of its own. The values are those of the next
+/// turn where the bounds are the greatest ones over a process's actions.
 ///
 /// `low` and `high` have numbers, and `low` is at most `high` at each state. It makes only nodes of its three answers. Full comes only
-/// where a call of the forest answered Full in this call, and Memory where the heap gave none. Its memo keeps at most `memo_size` pairs.
+/// where a call of the forest answered Full in this call, and Memory where the heap gave none. The memo of the pairs keeps at most
+/// `memo_size` of them.
 pub fn merge<F: Forest, L: Ledger>(
     alloc: Global,
     forest: &mut F,

@@ -2,7 +2,7 @@
 
 ghost use Rattle.std.specs.Prelude.{◌≡◌, ◌≤ℤ◌, ◌+ℤ◌, pos};
 ghost use Rattle.spd_scaled.specs.Scaled.{floor_div};
-ghost use Rattle.spd_ranges.specs.Groups.{is_range, middle_leaf};
+ghost use Rattle.spd_ranges.specs.inner.Groups.{is_range, middle_leaf};
 
 use spd_apply::LeafMap;
 use spd_nodes::Leaf;

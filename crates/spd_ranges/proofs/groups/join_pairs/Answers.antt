@@ -6,7 +6,7 @@ use Rattle.std.proofs.lemmas.Int.{to_z-of_z}
 use Rattle.spd_nodes.specs.declared.leaf.Leaf.{Leaf}
 use Rattle.spd_nodes.specs.declared.leaf.Leaf.TheVariants.{Num}
 use Rattle.spd_ranges.specs.Merging.{range_at}
-use Rattle.spd_ranges.specs.Groups.{begun_by}
+use Rattle.spd_ranges.specs.inner.Groups.{begun_by}
 use Rattle.spd_ranges.specs.declared.groups.Group.{Group}
 use Rattle.spd_ranges.proofs.GroupLaws.{InOrder}
 use Rattle.spd_ranges.proofs.SweepLaws.{sweep-first, sweep-takes, sweep-ends, sweep-last, told-ordered}

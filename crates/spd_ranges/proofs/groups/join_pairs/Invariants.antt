@@ -1,7 +1,7 @@
 use Rattle.std.proofs.Common.{◌≡◌, ◌++◌, map, drop}
 use Rattle.spd_model.specs.Ranges.{groups_of}
 use Rattle.spd_ranges.specs.Merging.{range_at}
-use Rattle.spd_ranges.specs.Groups.{told_by}
+use Rattle.spd_ranges.specs.inner.Groups.{told_by}
 use Rattle.spd_ranges.proofs.GroupLaws.{swept}
 use Rattle.spd_ranges.proofs.groups.join_pairs.Given as goal
 

@@ -9,7 +9,7 @@ use Rattle.spd_nodes.specs.States.{Function}
 use Rattle.spd_nodes.specs.Shown.{Shown, meaning}
 use Rattle.spd_apply.specs.Leaves.{AreLeavesOf, leaf_before}
 use Rattle.spd_ranges.specs.Merging.{range_at}
-use Rattle.spd_ranges.specs.Groups.{is_range, told_by}
+use Rattle.spd_ranges.specs.inner.Groups.{is_range, told_by}
 use Rattle.spd_ranges.proofs.LeafLaws.{finds, leaves-ranges}
 use Rattle.spd_ranges.proofs.merging.groups_at.Goals as goal
 

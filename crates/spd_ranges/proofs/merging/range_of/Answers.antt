@@ -3,7 +3,7 @@ use mir.Syntax.{w128}
 use Rattle.std.proofs.lemmas.Int.{to_z-of_z}
 use Rattle.spd_nodes.specs.Shown.{Shown, MakesDiagram, meaning}
 use Rattle.spd_apply.specs.Outcome.{map_each}
-use Rattle.spd_ranges.specs.Groups.{Finds, found_in}
+use Rattle.spd_ranges.specs.inner.Groups.{Finds, found_in}
 use Rattle.spd_ranges.proofs.MergeLaws.{same-ranges, found-ranges}
 use Rattle.spd_ranges.proofs.merging.range_of.Goals as goal
 

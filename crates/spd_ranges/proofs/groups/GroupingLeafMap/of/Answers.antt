@@ -4,7 +4,7 @@ use Rattle.std.proofs.lemmas.Fn.{always_returns_same}
 use Rattle.spd_model.specs.Ranges.{Range}
 use Rattle.spd_nodes.specs.declared.leaf.Leaf.TheVariants.{Pair}
 use Rattle.spd_ranges.specs.declared.groups.Group.{Group}
-use Rattle.spd_ranges.specs.Groups.{begins_by, found_in}
+use Rattle.spd_ranges.specs.inner.Groups.{begins_by, found_in}
 use Rattle.spd_ranges.proofs.GroupLaws.{IsSplitAt, begun-parted, point-none, point-some}
 use Rattle.spd_ranges.proofs.groups.GroupingLeafMap.of.Goals as goal
 
