@@ -9,6 +9,7 @@
 mod building;
 mod built;
 mod drawing;
+mod layout;
 mod lists;
 mod rewards;
 mod start;
@@ -17,4 +18,5 @@ mod trees;
 
 pub use building::build;
 pub use built::{BuildFault, Built};
+pub use layout::layout_of;
 pub use trees::{dds_of, tree_of};
