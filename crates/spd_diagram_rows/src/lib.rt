@@ -6,6 +6,8 @@ mod binary;
 #[cfg(test)]
 mod cases;
 #[cfg(test)]
+mod choosing;
+#[cfg(test)]
 mod deep;
 #[cfg(test)]
 mod forests;
