@@ -8,8 +8,6 @@ mod cases;
 #[cfg(test)]
 mod deep;
 #[cfg(test)]
-mod forests;
-#[cfg(test)]
 mod groves;
 #[cfg(test)]
 mod guarded;
@@ -18,11 +16,7 @@ mod indicators;
 #[cfg(test)]
 mod leaf_order;
 #[cfg(test)]
-mod machine;
-#[cfg(test)]
 mod maps;
-#[cfg(test)]
-mod memos;
 #[cfg(test)]
 mod reading;
 #[cfg(test)]
