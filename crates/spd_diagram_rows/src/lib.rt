@@ -10,8 +10,6 @@ mod choosing;
 #[cfg(test)]
 mod deep;
 #[cfg(test)]
-mod forests;
-#[cfg(test)]
 mod groves;
 #[cfg(test)]
 mod guarded;
@@ -19,8 +17,6 @@ mod guarded;
 mod indicators;
 #[cfg(test)]
 mod leaf_order;
-#[cfg(test)]
-mod machine;
 #[cfg(test)]
 mod maps;
 #[cfg(test)]

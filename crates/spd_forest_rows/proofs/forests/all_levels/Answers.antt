@@ -8,7 +8,7 @@ use Rattle.spd_nodes.specs.Levels.{levels_of, slots, after, is_first}
 use Rattle.spd_nodes.specs.Trees.{Tree, Ends, Tests, IsAt, IsFrom, CanTest, join}
 use Rattle.spd_nodes.specs.Shown.{Shown, KnowsAs}
 use Rattle.spd_nodes.proofs.CallerLemmas.{join-differ}
-use Rattle.spd_diagram_rows.proofs.forests.all_levels.Goals as goal
+use Rattle.spd_forest_rows.proofs.forests.all_levels.Goals as goal
 
 first-zero : (ds : List ℕ) → is_first ds 0 ≡ true
 first-zero [] = refl

@@ -4,7 +4,7 @@ use Rattle.spd_nodes.specs.declared.leaf.Leaf.TheVariants as L
 use Rattle.spd_nodes.specs.Levels.{levels_of, slots}
 use Rattle.spd_nodes.specs.Trees.{Ends, IsAt}
 use Rattle.spd_nodes.specs.Shown.{IsSound, KnowsAs}
-use Rattle.spd_diagram_rows.proofs.forests.all_levels.Given as goal
+use Rattle.spd_forest_rows.proofs.forests.all_levels.Given as goal
 
 abbrev pub invariant-loop-done : goal.invariant-loop-done
 invariant-loop-done g l =
