@@ -20,8 +20,6 @@ mod leaf_order;
 #[cfg(test)]
 mod maps;
 #[cfg(test)]
-mod memos;
-#[cfg(test)]
 mod merging;
 #[cfg(test)]
 mod reading;
