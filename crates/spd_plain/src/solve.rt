@@ -75,7 +75,7 @@ pub enum PlainFault {
 }
 
 /// Where a run of value iteration stopped.
-#[derive(Debug, Drop)]
+#[derive(Drop)]
 pub struct Stop {
     pub turn: u32,
     pub why: Why,

@@ -55,7 +55,7 @@ pub bounds_of-requires-clause-outlook : goal.bounds_of-requires-clause-outlook
 bounds_of-requires-clause-outlook c =
     let all = c.as_slice-actions.ensures ∙ ap (λ (m : Process). m.actions) c.model.view_is in
     outlook_read c.args.model.now c.args.s.now c.args.outlooks.now c.as_slice-actions.result.now 0 c.index-outlooks-0.result c.index-actions-0.result c.requires.outlooks all
-        (omega (arith, c.model.invariant.some_actions, ap length c.as_slice-actions.ensures)) c.index-outlooks-0.is c.index-actions-0.is
+    (omega (arith, c.model.invariant.some_actions, ap length c.as_slice-actions.ensures)) c.index-outlooks-0.is c.index-actions-0.is
 
 pub loop-number-init : goal.loop-number-init
 loop-number-init c =

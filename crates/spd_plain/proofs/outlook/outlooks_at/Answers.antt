@@ -13,7 +13,7 @@ pub outlook_after-requires-clause-reaches : goal.outlook_after-requires-clause-r
 outlook_after-requires-clause-reaches c =
     let all = c.as_slice-actions.ensures ∙ ap (λ (m : Process). m.actions) c.model.view_is in
     c.as_slice.ensures ∙ reaches_read c.args.model.now c.args.reaches.now c.as_slice-actions.result.now c.loop-number.number c.index-reaches-number.result c.index-actions-number.result c.requires.reaches all
-        c.loop-number-test.true c.index-reaches-number.is c.index-actions-number.is
+    c.loop-number-test.true c.index-reaches-number.is c.index-actions-number.is
 
 pub loop-number-preserved : goal.loop-number-preserved
 loop-number-preserved c =
