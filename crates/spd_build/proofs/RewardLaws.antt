@@ -91,10 +91,6 @@ module _ (m : Process) (trees : List Tree) (law : AreRewards m trees) (i : ℕ) 
   pub more-agrees : Agree t.sizes (at_each (num_of (λ b c. b +ℤ c)) (meaning t sum) (meaning t tree)) (part_sum m trees (i + 1))
   more-agrees = record { at = more-is }
 
--- all parts
-pub all-of-them : (m : Process) (trees : List Tree) (i : ℕ) → length trees ≤ i → part_sum m trees i ≡ all_parts m trees
-all-of-them m trees i past = λ k x y. Num (total (map (λ tree. value_of m tree x y) ((take_all i trees past ∙ sym (take_all (length trees) trees (omega arith))) k)))
-
 -- ---- trees of the present state alone
 
 goes-alike : (x y : List ℕ) (p : Part) → FitsReward p → GoesAlike x y x x p

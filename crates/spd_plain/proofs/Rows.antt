@@ -17,6 +17,7 @@ use Rattle.spd_plain.specs.declared.reach.Reach.{Reach}
 use Rattle.spd_plain.specs.inner.Reach.{reaches_after, reaches_of}
 use Rattle.spd_plain.specs.inner.Outlooks.{outlook_of, outlooks_at, outlooks_of}
 use Rattle.spd_plain.specs.inner.Sweeps.{bound_on, action_on}
+use Rattle.spd_model.proofs.CallerLemmas.Lists.{map-map}
 
 -- the greatest of one entry more
 pub greatest_one_more : {X : Type 0} (f : X → ℤ) (xs : List X) (k : ℕ) (x : X) (best here most : ℤ) → 0 < k → k < length xs → x ≡ get_or xs k x → best ≡ greatest (map f (take k xs)) → here ≡ f x
@@ -43,10 +44,6 @@ pub first_on : (side : Side) (m : Process) (w : List ℕ → ℤ) (s : List ℕ)
     ≡ action_on side m w s
 first_on Above m w s = refl
 first_on Below m w s = refl
-
-map-map : {X Y Z : Type 0} (f : Y → Z) (g : X → Y) (xs : List X) → map f (map g xs) ≡ map (λ x. f (g x)) xs
-map-map f g [] = refl
-map-map f g (x ∷ xs) = ap (λ ys. f (g x) ∷ ys) (map-map f g xs)
 
 -- the row of a place
 pub row_read : (m : Process) (rows : List (List Outlook)) (k : ℕ) (row : List Outlook) (s : List ℕ) → rows ≡ outlooks_of m → k < state_count (sizes m) → row ≡ get_or rows k row

@@ -74,7 +74,7 @@ map-same : {X : Type 0} (o : Option X) → o ≡ option_map (λ x. x) o
 map-same (Some x) = refl
 map-same None = refl
 
-map-map : {X Y Z : Type 0} (f : Y → Z) (g : X → Y) (o : Option X) → option_map f (option_map g o) ≡ option_map (λ x. f (g x)) o
+pub map-map : {X Y Z : Type 0} (f : Y → Z) (g : X → Y) (o : Option X) → option_map f (option_map g o) ≡ option_map (λ x. f (g x)) o
 map-map f g (Some x) = refl
 map-map f g None = refl
 
