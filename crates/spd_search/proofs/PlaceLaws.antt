@@ -114,10 +114,6 @@ found-state sizes wants f q positive test =
 
 -- ---- what an answer says of the function
 
-unpaired : {X Y : Type 0} (k : X → Y) (o : Option X) → option_map k o ≡ None → o ≡ None
-unpaired k None e = refl
-unpaired k (Some x) e = absurd (cc e)
-
 -- where nothing was found, no leaf is wanted
 pub found-none : (sizes : List ℕ) (wants : Leaf → Bool) (f : Function) → first_found sizes wants f ≡ None → (s t : List ℕ) → IsState sizes s → IsState sizes t → wants (f s t) ≡ false
 found-none sizes wants f none s t i j =
@@ -128,6 +124,10 @@ found-none sizes wants f none s t i j =
     let row : All (λ (p : List ℕ × List ℕ). wants (f p.0 p.1) ≡ false) (map (λ (t : List ℕ). (s, t)) (states sizes)) =
     All-states_back (λ (s : List ℕ). All (λ (p : List ℕ × List ℕ). wants (f p.0 p.1) ≡ false) (map (λ (t : List ℕ). (s, t)) (states sizes))) sizes rows s i in
     All-states_back (λ (t : List ℕ). wants (f s t) ≡ false) sizes (All-map_back (λ (p : List ℕ × List ℕ). wants (f p.0 p.1) ≡ false) (λ (t : List ℕ). (s, t)) (states sizes) row) t j
+  where
+    unpaired : {X Y : Type 0} (k : X → Y) (o : Option X) → option_map k o ≡ None → o ≡ None
+    unpaired k None e = refl
+    unpaired k (Some x) e = absurd (cc e)
 
 -- What was found is a present state with a leaf that is wanted, which is the function's at some next state.
 pub record IsFound (sizes : List ℕ) (wants : Leaf → Bool) (f : Function) (found : Found) : Type 0 where

@@ -7,9 +7,9 @@ use Rattle.spd_model.specs.declared.process.Action.{Action}
 use Rattle.spd_model.specs.Process.{Process}
 use Rattle.spd_model.specs.Chances.{Sum, one}
 use Rattle.spd_plain.specs.inner.Faults.{sum_record}
-use Rattle.spd_model.proofs.CallerLemmas.Finds.{find_flat_some, find_flat_more, find_flat_none}
+use Rattle.spd_model.proofs.CallerLemmas.Finds.{find_flat_some, find_flat_more, find_flat_none, is_some-option_map}
 use Rattle.spd_model.proofs.CallerLemmas.Validity.{sums_after}
-use Rattle.spd_plain.proofs.Numbered.{numbered, is_some-option_map}
+use Rattle.spd_plain.proofs.Numbered.{numbered}
 use Rattle.spd_plain.proofs.Rows.{length-reaches}
 use Rattle.spd_plain.proofs.validity.first_wrong_sum.Goals as goal
 

@@ -5,13 +5,12 @@ use Rattle.spd_model.specs.Lawful.{IsLawful}
 use Rattle.spd_model.specs.Numbers.{numbers_below}
 use Rattle.spd_model.specs.States.{sizes, states}
 use Rattle.spd_model.specs.Chances.{Sum, one}
-use Rattle.spd_model.proofs.CallerLemmas.Finds.{find_flat_some, find_flat_more, find_flat_none}
+use Rattle.spd_model.proofs.CallerLemmas.Finds.{find_flat_some, find_flat_more, find_flat_none, is_some-option_map}
 use Rattle.spd_model.proofs.CallerLemmas.Lists.{length-numbers_below, get_or-numbers_below}
 use Rattle.spd_plain.specs.declared.space.Axis.{Axis}
 use Rattle.spd_plain.specs.inner.Axes.{axis_of}
 use Rattle.spd_plain.specs.inner.Faults.{sum_record, sums_at}
 use Rattle.spd_plain.proofs.Known.{length-below, var_is, is_axis, reach_read}
-use Rattle.spd_plain.proofs.Numbered.{is_some-option_map}
 use Rattle.spd_plain.specs.inner.Reach.{reach_at}
 use Rattle.spd_plain.proofs.validity.wrong_sum_after.Goals as goal
 
