@@ -1,5 +1,5 @@
 -- The first sum that isn't one: over all next states it is found where it is over the next values of the later variables alone.
-use Rattle.std.proofs.Common.{◌≡◌, ℕ, zero, suc, ◌<◌, Bool, true, false, not, cond, List, [], ◌∷◌, ◌++◌, length, map, flat_map, drop, find, slice_index, All, ℤ, pos, Option, Some, None, refl, ap, sym, ◌∙◌, subst, arith}
+use Rattle.std.proofs.Common.{◌≡◌, ℕ, zero, suc, ◌<◌, Bool, true, false, not, cond, List, [], ◌∷◌, ◌++◌, length, map, flat_map, drop, find, slice_index, All, ℤ, Option, Some, None, refl, ap, sym, ◌∙◌, arith}
 use Rattle.std.specs.Option.{option_map, option_or}
 use Rattle.std.specs.Ordering.{int_eq}
 use Rattle.std.proofs.lemmas.List.Elements.{All-head, All-tail, All-map}
@@ -11,16 +11,14 @@ use Rattle.spd_model.specs.Lawful.{IsLawful}
 use Rattle.spd_model.specs.Numbers.{numbers_below}
 use Rattle.spd_model.specs.States.{sizes, states, IsState}
 use Rattle.spd_model.specs.Chances.{Sum, one, sum_of}
-use Rattle.spd_model.proofs.CallerLemmas.Finds.{All-find}
 use Rattle.spd_model.proofs.CallerLemmas.Lists.{All-flat_map, length-numbers_below}
 use Rattle.spd_model.proofs.CallerLemmas.StateOrder.{All-states, sizes_some}
-use Rattle.spd_nodes.specs.declared.leaf.Leaf.{Leaf}
-use Rattle.spd_nodes.specs.declared.leaf.Leaf.TheVariants.{Num, Pair, Act}
 use Rattle.spd_nodes.specs.States.{Function, Agree}
+use Rattle.spd_frozen.specs.Told.{number_of}
 use Rattle.spd_search.specs.declared.found.Found.{Found}
-use Rattle.spd_search.specs.Found.{state_pairs, first_pair, found_at, first_found}
+use Rattle.spd_search.specs.Found.{state_pairs, found_at, first_found}
 use Rattle.spd_build.specs.Functions.{weight_sum}
-use Rattle.spd_build.specs.Tables.{IsNum, first_wrong, is_wrong, variable_sums}
+use Rattle.spd_build.specs.Tables.{first_wrong, is_wrong, variable_sums}
 
 -- ---- searches that find the same
 
@@ -103,12 +101,6 @@ map-pairs f (s ∷ ss) ts =
     map-append f (map (λ t. (s, t)) ts) (flat_map (λ s. map (λ t. (s, t)) ts) ss)
     ∙ (λ n. map-twice f (λ t. (s, t)) ts n ++ map-pairs f ss ts n)
 
--- the number of a leaf
-number : Leaf → ℤ
-number (Num x) = x
-number (Pair x y) = pos 0
-number (Act a) = pos 0
-
 module _ (m : Process) (law : IsLawful m) (k : ℕ) (a : Action) (i : ℕ) (f : Function) (same : Agree (sizes m) f (weight_sum m a i (slice_index (sizes m) i))) where
   sum_from : List ℕ → List ℕ → Sum
   sum_from s rest = record { action = k; var = i; state = s; sum = sum_of m a s i rest }
@@ -117,37 +109,25 @@ module _ (m : Process) (law : IsLawful m) (k : ℕ) (a : Action) (i : ℕ) (f : 
   sum_at z = sum_from z.0 (drop (suc i) z.1)
 
   sum_found : Found → Sum
-  sum_found x = record { action = k; var = i; state = x.state; sum = number x.leaf }
+  sum_found x = record { action = k; var = i; state = x.state; sum = number_of x.leaf }
 
   abbrev wrong : Sum → Bool
   wrong x = not (int_eq x.sum one)
 
   -- the first wrong sum is what a search along the sums' diagram finds
   sum-first : first_wrong (variable_sums m (k, a) i) ≡ option_map sum_found (first_found (sizes m) is_wrong f)
-  unfolding sum_from sum_at sum_found number
+  unfolding sum_from sum_at sum_found
   sum-first =
       find-flat-same wrong (λ s. map (sum_from s) (states (drop (suc i) (sizes m)))) (λ s. map (λ t. sum_from s (drop (suc i) t)) (states (sizes m))) (states (sizes m))
       (λ s. find-dropped wrong (sum_from s) (suc i) (sizes m) (sizes_some m law))
       ∙ ap (find wrong) (sym (map-pairs sum_at (states (sizes m)) (states (sizes m))))
       ∙ find-alike wrong (λ z. is_wrong (f z.0 z.1)) sum_at (found_at f) sum_found (state_pairs (sizes m))
-      (All-pairs (Alike wrong (λ (z : List ℕ × List ℕ). is_wrong (f z.0 z.1)) sum_at (found_at f) sum_found) (sizes m) (λ s t p q. record { passes = ap is_wrong (sym (same.at s t p q)); image = ap (λ l. record { action = k; var = i; state = s; sum = number l }) (sym (same.at s t p q)) }))
+      (All-pairs (Alike wrong (λ (z : List ℕ × List ℕ). is_wrong (f z.0 z.1)) sum_at (found_at f) sum_found) (sizes m) (λ s t p q. record { passes = ap is_wrong (sym (same.at s t p q)); image = ap (λ l. record { action = k; var = i; state = s; sum = number_of l }) (sym (same.at s t p q)) }))
 
   pub none-wrong : None ≡ first_found (sizes m) is_wrong f → first_wrong (variable_sums m (k, a) i) ≡ None
   none-wrong h = sum-first ∙ ap (option_map sum_found) (sym h)
 
-  pub first-wrong : (x : Found) (sum : ℤ) → Some x ≡ first_found (sizes m) is_wrong f → Num sum ≡ x.leaf
+  pub first-wrong : (x : Found) (sum : ℤ) → Some x ≡ first_found (sizes m) is_wrong f → sum ≡ number_of x.leaf
       → first_wrong (variable_sums m (k, a) i) ≡ Some (record { action = k; var = i; state = x.state; sum = sum })
-  unfolding sum_found number
-  first-wrong x sum h is = sum-first ∙ ap (option_map sum_found) (sym h) ∙ ap (λ l. Some (record { action = k; var = i; state = x.state; sum = number l })) (sym is)
-
-  -- what is found is a number
-  pub found-num : (x : Found) → Some x ≡ first_found (sizes m) is_wrong f → IsNum x.leaf
-  found-num x h = of_pair (first_pair (sizes m) is_wrong f) refl h
-    where
-      of_pair : (o : Option (List ℕ × List ℕ)) → first_pair (sizes m) is_wrong f ≡ o → Some x ≡ option_map (found_at f) o → IsNum x.leaf
-      of_pair None e h = cc
-      of_pair (Some z) e h =
-          let num : IsNum (f z.0 z.1) = All-find (λ z. IsNum (f z.0 z.1)) (λ z. is_wrong (f z.0 z.1)) (state_pairs (sizes m)) z
-          (All-pairs (λ z. IsNum (f z.0 z.1)) (sizes m) (λ s t p q. subst IsNum (sym (same.at s t p q)) tt)) e in
-          let same_leaf : x.leaf ≡ f z.0 z.1 = cc in
-          subst IsNum (sym same_leaf) num
+  unfolding sum_found
+  first-wrong x sum h is = sum-first ∙ ap (option_map sum_found) (sym h) ∙ ap (λ y. Some (record { action = k; var = i; state = x.state; sum = y })) (sym is)

@@ -23,12 +23,6 @@ is_wrong (Num x) = not (int_eq x one)
 is_wrong (Pair x y) = true
 is_wrong (Act a) = true
 
--- whether a leaf is a number
-abbrev pub IsNum : Leaf → Type 0
-IsNum (Num x) = Unit {0}
-IsNum (Pair x y) = ⊥
-IsNum (Act a) = ⊥
-
 -- ---- the functions
 
 -- those of all of an action's tables, and those of all actions' tables

@@ -138,7 +138,7 @@ impl Wanted for PastLimit {
 }
 
 /// The number of a leaf, which is 0 where it isn't one.
-fn number_of(leaf: Leaf) -> i128
+pub(crate) fn number_of(leaf: Leaf) -> i128
     ensures { result ≡ number_of leaf }
 {
     match leaf {

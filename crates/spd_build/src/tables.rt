@@ -5,17 +5,17 @@ ghost use Rattle.std.specs.List.{AllZip};
 ghost use Rattle.spd_model.specs.Lawful.{IsAction};
 ghost use Rattle.spd_model.specs.Chances.{first_wrong_sum, sums_of};
 ghost use Rattle.spd_model.specs.States.{sizes};
-ghost use Rattle.spd_nodes.specs.declared.leaf.Leaf.TheVariants.{Num};
 ghost use Rattle.spd_nodes.specs.Made.{HasMade};
 ghost use Rattle.spd_nodes.specs.Shown.{Shown, IsWhole, StandsFor, MakesAmong, MakesDiagram, meaning};
 ghost use Rattle.spd_restrict.specs.Restricted.{restricted};
 ghost use Rattle.spd_build.specs.Building.{HoldAdds};
 ghost use Rattle.spd_build.specs.Fitting.{StandForTrees};
 ghost use Rattle.spd_build.specs.Functions.{all_weights, table_functions, weight_sum, weights_of};
-ghost use Rattle.spd_build.specs.Tables.{IsNum, MakesWeights, StandAfter, TableCause, action_functions, action_sums, action_weights, all_table_functions, is_wrong, variable_sums};
+ghost use Rattle.spd_build.specs.Tables.{MakesWeights, StandAfter, TableCause, action_functions, action_sums, action_weights, all_table_functions, is_wrong, variable_sums};
 
 use crate::built::BuildFault;
 use crate::lists::{push, with_room};
+use crate::rewards::number_of;
 use crate::trees::tree_of;
 use spd_apply::{Add, OpFault, apply};
 use spd_memo::Memo;
@@ -41,17 +41,6 @@ impl Wanted for WrongSum {
             Leaf::Num(sum) => sum != ONE,
             _ => true,
         }
-    }
-}
-
-/// The number of a leaf that is a Num.
-fn number_in(leaf: Leaf) -> i128
-    requires { IsNum leaf }
-    ensures { Num result ≡ leaf }
-{
-    match leaf {
-        Leaf::Num(x) => x,
-        _ => 0,
     }
 }
 
@@ -155,15 +144,14 @@ fn weigh_variable<F: Forest, L: Ledger>(
     // Reading a field tells the proof what every model keeps.
     let _vars = &model.vars;
     let sum = weigh_values(alloc, model, forest, action, var, dds, weights, adds, steps)?;
-    match first_found(alloc, forest, sum, &WrongSum) {
-        Ok(None) => Ok(()),
-        Ok(Some(found)) => Err(BuildFault::Sum {
+    match first_found(alloc, forest, sum, &WrongSum)? {
+        None => Ok(()),
+        Some(found) => Err(BuildFault::Sum {
             action: number as u32,
             var: var as u32,
+            sum: number_of(found.leaf),
             state: found.state,
-            sum: number_in(found.leaf),
         }),
-        Err(_) => Err(BuildFault::Memory),
     }
 }
 

@@ -14,7 +14,7 @@ use Rattle.spd_build.specs.declared.built.BuildFault.TheVariants as Fault
 use Rattle.spd_build.specs.Building.{HoldAdds, build_fault}
 use Rattle.spd_build.specs.Functions.{table_functions, weight_sum, weights_of}
 use Rattle.spd_build.specs.Tables.{MakesWeights, is_wrong, variable_sums}
-use Rattle.spd_build.proofs.PlaceLaws.{first-wrong, found-num, none-wrong}
+use Rattle.spd_build.proofs.PlaceLaws.{first-wrong, none-wrong}
 use Rattle.spd_build.proofs.WeighingLaws.{forest-cause}
 use Rattle.spd_build.proofs.tables.weigh_variable.Goals as goal
 
@@ -32,10 +32,28 @@ returns-in_err-sum-clause-made g c =
     (sym (err_is c.from_residual.result (build_fault e) c.from_residual.ensures.1))
     (record { made = has-made c.in_err-sum.ensures.made; stand = tt; sums = tt; fault = forest-cause sums (table_functions m a i) t e c.in_err-sum.ensures.made.fault })
 
+-- ---- there was no memory to look for a place
+
+pub returns-in_err-first_found-clause-made : goal.returns-in_err-first_found-clause-made
+returns-in_err-first_found-clause-made g c =
+    let m = c.args.model.now in
+    let a = c.args.action.now in
+    let i = c.args.var in
+    let s = g.F.Forest.shows c.args.forest.now in
+    let t = g.F.Forest.shows c.weigh_values.new.forest in
+    let told : MakesWeights {A = Unit {0}} (variable_sums m (c.args.number, a) i) (table_functions m a i) (weights_of m a i) s t c.args.weights.now.items c.weigh_values.new.weights.items (Err Fault.Memory) =
+    record { made = has-made c.in_ok-sum.ensures.made; stand = tt; sums = tt; fault = tt } in
+    let is : c.from_residual-in_err-first_found.result ≡ Err Fault.Memory = err_is c.from_residual-in_err-first_found.result Fault.Memory c.from_residual-in_err-first_found.ensures.1 in
+    subst (λ (v : Shown). MakesWeights {A = Unit {0}} (variable_sums m (c.args.number, a) i) (table_functions m a i) (weights_of m a i) s v c.args.weights.now.items c.weigh_values.new.weights.items c.from_residual-in_err-first_found.result) (sym c.first_found.ensures.same)
+    (subst (MakesWeights {A = Unit {0}} (variable_sums m (c.args.number, a) i) (table_functions m a i) (weights_of m a i) s t c.args.weights.now.items c.weigh_values.new.weights.items) (sym is) told)
+
+pub returns-in_err-first_found-clause-adds : goal.returns-in_err-first_found-clause-adds
+returns-in_err-first_found-clause-adds g c = subst (λ (v : Shown). HoldAdds v c.weigh_values.new.adds) (sym c.first_found.ensures.same) c.weigh_values.ensures.adds
+
 -- ---- all sums are one
 
-pub returns-in-Ok-None-clause-made : goal.returns-in-Ok-None-clause-made
-returns-in-Ok-None-clause-made g c =
+pub returns-in-None-clause-made : goal.returns-in-None-clause-made
+returns-in-None-clause-made g c =
     let m = c.args.model.now in
     let a = c.args.action.now in
     let i = c.args.var in
@@ -46,31 +64,17 @@ returns-in-Ok-None-clause-made g c =
     let made = c.in_ok-sum.ensures.made in
     let there : t.sizes ≡ sizes m = made.grows.sizes ∙ c.requires.layout in
     let same : Agree (sizes m) f (weight_sum m a i (slice_index (sizes m) i)) = subst (λ (z : List ℕ). Agree z f (weight_sum m a i (slice_index (sizes m) i))) there made.ok.value in
-    let none : None ≡ first_found (sizes m) is_wrong f = sym c.in-Ok-None.field-0-is ∙ c.in-Ok-None.ensures.found ∙ ap (λ (z : List ℕ). first_found z is_wrong f) there in
+    let none : None ≡ first_found (sizes m) is_wrong f = sym c.in-None.is ∙ c.in_ok-first_found.ensures.found ∙ ap (λ (z : List ℕ). first_found z is_wrong f) there in
     subst (λ (v : Shown). MakesWeights {A = Unit {0}} (variable_sums m (c.args.number, a) i) (table_functions m a i) (weights_of m a i) s v c.args.weights.now.items c.weigh_values.new.weights.items (Ok tt)) (sym c.first_found.ensures.same)
     (record { made = has-made made; stand = c.in_ok-sum.ensures.stand; sums = none-wrong m law c.args.number a i f same none; fault = tt })
 
-pub returns-in-Ok-None-clause-adds : goal.returns-in-Ok-None-clause-adds
-returns-in-Ok-None-clause-adds g c = subst (λ (v : Shown). HoldAdds v c.weigh_values.new.adds) (sym c.first_found.ensures.same) c.weigh_values.ensures.adds
+pub returns-in-None-clause-adds : goal.returns-in-None-clause-adds
+returns-in-None-clause-adds g c = subst (λ (v : Shown). HoldAdds v c.weigh_values.new.adds) (sym c.first_found.ensures.same) c.weigh_values.ensures.adds
 
 -- ---- a sum isn't one
 
-pub number_in-requires : goal.number_in-requires
-number_in-requires g c =
-    let m = c.args.model.now in
-    let a = c.args.action.now in
-    let i = c.args.var in
-    let law : IsLawful m = subst IsLawful c.model.view_is c.model.invariant in
-    let t = g.F.Forest.shows c.weigh_values.new.forest in
-    let f = meaning t c.in_ok-sum.sum in
-    let made = c.in_ok-sum.ensures.made in
-    let there : t.sizes ≡ sizes m = made.grows.sizes ∙ c.requires.layout in
-    let same : Agree (sizes m) f (weight_sum m a i (slice_index (sizes m) i)) = subst (λ (z : List ℕ). Agree z f (weight_sum m a i (slice_index (sizes m) i))) there made.ok.value in
-    let some : Some c.in-Ok-Some.found ≡ first_found (sizes m) is_wrong f = sym c.in-Ok-Some.field-0-is ∙ c.in-Ok-Some.ensures.found ∙ ap (λ (z : List ℕ). first_found z is_wrong f) there in
-    found-num m law c.args.number a i f same c.in-Ok-Some.found some
-
-pub returns-in-Ok-Some-clause-made : goal.returns-in-Ok-Some-clause-made
-returns-in-Ok-Some-clause-made g c =
+pub returns-in-Some-clause-made : goal.returns-in-Some-clause-made
+returns-in-Some-clause-made g c =
     let m = c.args.model.now in
     let a = c.args.action.now in
     let i = c.args.var in
@@ -81,25 +85,12 @@ returns-in-Ok-Some-clause-made g c =
     let made = c.in_ok-sum.ensures.made in
     let there : t.sizes ≡ sizes m = made.grows.sizes ∙ c.requires.layout in
     let same : Agree (sizes m) f (weight_sum m a i (slice_index (sizes m) i)) = subst (λ (z : List ℕ). Agree z f (weight_sum m a i (slice_index (sizes m) i))) there made.ok.value in
-    let some : Some c.in-Ok-Some.found ≡ first_found (sizes m) is_wrong f = sym c.in-Ok-Some.field-0-is ∙ c.in-Ok-Some.ensures.found ∙ ap (λ (z : List ℕ). first_found z is_wrong f) there in
-    let wrong : ℤ → BuildFault = λ x. Fault.Sum c.args.number i c.in-Ok-Some.found.state x in
-    let told : MakesWeights {A = Unit {0}} (variable_sums m (c.args.number, a) i) (table_functions m a i) (weights_of m a i) s t c.args.weights.now.items c.weigh_values.new.weights.items (Err (wrong c.number_in.result)) =
-    record { made = has-made made; stand = tt; sums = tt; fault = first-wrong m law c.args.number a i f same c.in-Ok-Some.found c.number_in.result some c.number_in.ensures } in
-    subst (λ (v : Shown). MakesWeights {A = Unit {0}} (variable_sums m (c.args.number, a) i) (table_functions m a i) (weights_of m a i) s v c.args.weights.now.items c.weigh_values.new.weights.items (Err (wrong (to_z w128 (of_z w128 c.number_in.result))))) (sym c.first_found.ensures.same)
-    (subst (λ (x : ℤ). MakesWeights {A = Unit {0}} (variable_sums m (c.args.number, a) i) (table_functions m a i) (weights_of m a i) s t c.args.weights.now.items c.weigh_values.new.weights.items (Err (wrong x))) (sym (to_z-of_z w128 c.number_in.result (sfits_of c.number_in.type_inv))) told)
+    let some : Some c.in-Some.found ≡ first_found (sizes m) is_wrong f = sym c.in-Some.is ∙ c.in_ok-first_found.ensures.found ∙ ap (λ (z : List ℕ). first_found z is_wrong f) there in
+    let wrong : ℤ → BuildFault = λ x. Fault.Sum c.args.number i c.in-Some.found.state x in
+    let told : MakesWeights {A = Unit {0}} (variable_sums m (c.args.number, a) i) (table_functions m a i) (weights_of m a i) s t c.args.weights.now.items c.weigh_values.new.weights.items (Err (wrong c.number_of.result)) =
+    record { made = has-made made; stand = tt; sums = tt; fault = first-wrong m law c.args.number a i f same c.in-Some.found c.number_of.result some c.number_of.ensures } in
+    subst (λ (v : Shown). MakesWeights {A = Unit {0}} (variable_sums m (c.args.number, a) i) (table_functions m a i) (weights_of m a i) s v c.args.weights.now.items c.weigh_values.new.weights.items (Err (wrong (to_z w128 (of_z w128 c.number_of.result))))) (sym c.first_found.ensures.same)
+    (subst (λ (x : ℤ). MakesWeights {A = Unit {0}} (variable_sums m (c.args.number, a) i) (table_functions m a i) (weights_of m a i) s t c.args.weights.now.items c.weigh_values.new.weights.items (Err (wrong x))) (sym (to_z-of_z w128 c.number_of.result (sfits_of c.number_of.type_inv))) told)
 
-pub returns-in-Ok-Some-clause-adds : goal.returns-in-Ok-Some-clause-adds
-returns-in-Ok-Some-clause-adds g c = subst (λ (v : Shown). HoldAdds v c.weigh_values.new.adds) (sym c.first_found.ensures.same) c.weigh_values.ensures.adds
-
--- ---- there was no memory to look for it
-
-pub returns-in-Err-clause-made : goal.returns-in-Err-clause-made
-returns-in-Err-clause-made g c =
-    let m = c.args.model.now in
-    let a = c.args.action.now in
-    let i = c.args.var in
-    subst (λ (v : Shown). MakesWeights {A = Unit {0}} (variable_sums m (c.args.number, a) i) (table_functions m a i) (weights_of m a i) (g.F.Forest.shows c.args.forest.now) v c.args.weights.now.items c.weigh_values.new.weights.items (Err Fault.Memory)) (sym c.first_found.ensures.same)
-    (record { made = has-made c.in_ok-sum.ensures.made; stand = tt; sums = tt; fault = tt })
-
-pub returns-in-Err-clause-adds : goal.returns-in-Err-clause-adds
-returns-in-Err-clause-adds g c = subst (λ (v : Shown). HoldAdds v c.weigh_values.new.adds) (sym c.first_found.ensures.same) c.weigh_values.ensures.adds
+pub returns-in-Some-clause-adds : goal.returns-in-Some-clause-adds
+returns-in-Some-clause-adds g c = subst (λ (v : Shown). HoldAdds v c.weigh_values.new.adds) (sym c.first_found.ensures.same) c.weigh_values.ensures.adds
