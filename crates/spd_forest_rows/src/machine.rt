@@ -82,10 +82,8 @@ fn find_or_make(
 /// A part of a schedule.
 #[derive(Clone, Copy, Debug)]
 enum Part {
-    /// Both seats look for the keys from one number to another, in alternate steps.
-    Both(u32, u32),
-    /// This seat alone looks for such keys.
-    Alone(u32, u32, u32),
+    /// These two seats look for the keys from one number to another, in alternate steps. A seat that runs alone is both.
+    Keys(u32, u32, u32, u32),
     Split,
     Join,
 }
@@ -119,8 +117,9 @@ fn play(alloc: Global, core: Core, parts: &[Part]) -> Result<Core, Memory>
     let mut core = core;
     for part in parts {
         core = match *part {
-            Part::Both(from, to) => make_all(alloc, core, 0, 1, from, to)?,
-            Part::Alone(seat, from, to) => make_all(alloc, core, seat, seat, from, to)?,
+            Part::Keys(first, second, from, to) => {
+                make_all(alloc, core, first, second, from, to)?
+            }
             Part::Split => step(alloc, core, Event::Split { seat: 0 })?,
             Part::Join => step(alloc, core, Event::Join { seat: 0, other: 1 })?,
         };
@@ -181,7 +180,7 @@ const SCHEDULES: &[Schedule] = &[
         "Two seats make the same 40 keys: each key is published once, and costs the seat that has no spare left a claim.",
         64,
         2,
-        &[Part::Split, Part::Both(0, 40), Part::Join],
+        &[Part::Split, Part::Keys(0, 1, 0, 40), Part::Join],
         Counts {
             claims: 41,
             filled: 40,
@@ -197,7 +196,7 @@ const SCHEDULES: &[Schedule] = &[
         "A seat meets the end of the claims.",
         16,
         1,
-        &[Part::Alone(0, 0, 18)],
+        &[Part::Keys(0, 0, 0, 18)],
         Counts {
             claims: 18,
             filled: 17,
@@ -213,7 +212,7 @@ const SCHEDULES: &[Schedule] = &[
         "It still finds a published key.",
         16,
         1,
-        &[Part::Alone(0, 0, 18), Part::Alone(0, 3, 4)],
+        &[Part::Keys(0, 0, 0, 18), Part::Keys(0, 0, 3, 4)],
         Counts {
             claims: 18,
             filled: 17,
@@ -231,9 +230,9 @@ const SCHEDULES: &[Schedule] = &[
         2,
         &[
             Part::Split,
-            Part::Both(7, 8),
-            Part::Alone(1, 8, 9),
-            Part::Alone(0, 8, 9),
+            Part::Keys(0, 1, 7, 8),
+            Part::Keys(1, 1, 8, 9),
+            Part::Keys(0, 0, 8, 9),
         ],
         Counts {
             claims: 2,
@@ -251,10 +250,10 @@ const SCHEDULES: &[Schedule] = &[
         16,
         2,
         &[
-            Part::Alone(0, 0, 5),
+            Part::Keys(0, 0, 0, 5),
             Part::Split,
-            Part::Alone(1, 3, 8),
-            Part::Alone(0, 5, 10),
+            Part::Keys(1, 1, 3, 8),
+            Part::Keys(0, 0, 5, 10),
             Part::Join,
         ],
         Counts {
@@ -317,8 +316,9 @@ struct Seen {
     claims: u64,
     filled: usize,
     bucket: u64,
-    words: [Words; 2],
-    seats: [Option<Shown>; 2],
+    words: [[u64; 5]; 2],
+    seat: Option<Shown>,
+    other: Option<Shown>,
 }
 
 fn look_at(core: &Core) -> Option<Seen> {
@@ -326,11 +326,9 @@ fn look_at(core: &Core) -> Option<Seen> {
         claims: core.claims,
         filled: filled(core),
         bucket: core.buckets.get(start_bucket(&KEY, 6) as usize).copied()?,
-        words: [
-            core.entries.first().copied()?,
-            core.entries.get(1).copied()?,
-        ],
-        seats: [view_of(core, 0), view_of(core, 1)],
+        words: [core.entries.first()?.0, core.entries.get(1)?.0],
+        seat: view_of(core, 0),
+        other: view_of(core, 1),
     })
 }
 
@@ -400,137 +398,115 @@ const NEW: Seen = Seen {
     claims: 0,
     filled: 0,
     bucket: 0,
-    words: [Words([0; 5]), Words([0; 5])],
-    seats: [Some(FRESH), None],
+    words: [[0; 5], [0; 5]],
+    seat: Some(FRESH),
+    other: None,
 };
 
 const CLAIMED: Seen = Seen {
     claims: 2,
-    seats: [Some(FIRST), Some(SECOND)],
+    seat: Some(FIRST),
+    other: Some(SECOND),
     ..NEW
 };
 
 const STORED: Seen = Seen {
-    words: [Words([2, 7, 0, 0, 0]), Words([2, 7, 0, 0, 0])],
+    words: [[2, 7, 0, 0, 0], [2, 7, 0, 0, 0]],
     ..CLAIMED
 };
 
 const PUBLISHED: Seen = Seen {
     filled: 1,
     bucket: 1,
-    seats: [Some(WINNER), Some(SECOND)],
+    seat: Some(WINNER),
+    other: Some(SECOND),
     ..STORED
 };
 
-/// What some steps show, the steps, and what is seen after them.
-type Phase<'a> = (&'a str, &'a [Event], Seen);
+/// The machine's steps in order: what some of them show, and what is seen after them.
+const PHASES: &[(&str, Seen)] = &[
+    ("a new table", NEW),
+    (
+        "a split",
+        Seen {
+            seat: Some(SPLIT),
+            other: Some(SPLIT),
+            ..NEW
+        },
+    ),
+    ("both seats claim", CLAIMED),
+    (
+        "the first one stores",
+        Seen {
+            words: [[2, 7, 0, 0, 0], [0; 5]],
+            ..CLAIMED
+        },
+    ),
+    ("the second one stores", STORED),
+    ("the first one publishes", PUBLISHED),
+    ("the second one loses its exchange", PUBLISHED),
+    (
+        "it compares, and finds the first one's entry",
+        Seen {
+            seat: Some(WINNER),
+            other: Some(LOSER),
+            ..PUBLISHED
+        },
+    ),
+    (
+        "a join",
+        Seen {
+            seat: Some(JOINED),
+            other: Some(ENDED),
+            ..PUBLISHED
+        },
+    ),
+];
+
+/// A seat's step that stores a word of its key.
+fn store(seat: u32, word: u8) -> Event {
+    Event::StoreContent { seat, word }
+}
+
+/// The second seat's step that compares a word of the first entry.
+fn load(word: u8) -> Event {
+    Event::LoadContent {
+        seat: 1,
+        entry: Entry(0),
+        word,
+    }
+}
+
+/// The steps of a phase.
+fn steps_of(alloc: Global, phase: usize) -> Result<Vec<Event>, Memory> {
+    let words = [0, 1, 2, 3, 4];
+    match phase {
+        1 => [Event::Split { seat: 0 }].to_vec(alloc),
+        2 => [
+            Event::LoadBucket { seat: 0, key: KEY },
+            Event::LoadBucket { seat: 1, key: KEY },
+            Event::Claim { seat: 0 },
+            Event::Claim { seat: 1 },
+        ]
+        .to_vec(alloc),
+        3 => words.map(|word| store(0, word)).to_vec(alloc),
+        4 => words.map(|word| store(1, word)).to_vec(alloc),
+        5 => [Event::ExchangeBucket { seat: 0 }].to_vec(alloc),
+        6 => [Event::ExchangeBucket { seat: 1 }].to_vec(alloc),
+        7 => words.map(|word| load(word)).to_vec(alloc),
+        8 => [Event::Join { seat: 0, other: 1 }].to_vec(alloc),
+        _ => Ok(Vec::new(alloc)),
+    }
+}
 
 /// Two seats make one key, step by step.
 #[test]
 fn two_seats_make_one_key(rt: HostRuntime) -> Result<(), Fail> {
-    let phases: [Phase<'_>; 9] = [
-        ("a new table", &[], NEW),
-        (
-            "a split",
-            &[Event::Split { seat: 0 }],
-            Seen {
-                seats: [Some(SPLIT), Some(SPLIT)],
-                ..NEW
-            },
-        ),
-        (
-            "both seats claim",
-            &[
-                Event::LoadBucket { seat: 0, key: KEY },
-                Event::LoadBucket { seat: 1, key: KEY },
-                Event::Claim { seat: 0 },
-                Event::Claim { seat: 1 },
-            ],
-            CLAIMED,
-        ),
-        (
-            "the first one stores",
-            &[
-                Event::StoreContent { seat: 0, word: 0 },
-                Event::StoreContent { seat: 0, word: 1 },
-                Event::StoreContent { seat: 0, word: 2 },
-                Event::StoreContent { seat: 0, word: 3 },
-                Event::StoreContent { seat: 0, word: 4 },
-            ],
-            Seen {
-                words: [Words([2, 7, 0, 0, 0]), Words([0; 5])],
-                ..CLAIMED
-            },
-        ),
-        (
-            "the second one stores",
-            &[
-                Event::StoreContent { seat: 1, word: 0 },
-                Event::StoreContent { seat: 1, word: 1 },
-                Event::StoreContent { seat: 1, word: 2 },
-                Event::StoreContent { seat: 1, word: 3 },
-                Event::StoreContent { seat: 1, word: 4 },
-            ],
-            STORED,
-        ),
-        (
-            "the first one publishes",
-            &[Event::ExchangeBucket { seat: 0 }],
-            PUBLISHED,
-        ),
-        (
-            "the second one loses its exchange",
-            &[Event::ExchangeBucket { seat: 1 }],
-            PUBLISHED,
-        ),
-        (
-            "it compares, and finds the first one's entry",
-            &[
-                Event::LoadContent {
-                    seat: 1,
-                    entry: Entry(0),
-                    word: 0,
-                },
-                Event::LoadContent {
-                    seat: 1,
-                    entry: Entry(0),
-                    word: 1,
-                },
-                Event::LoadContent {
-                    seat: 1,
-                    entry: Entry(0),
-                    word: 2,
-                },
-                Event::LoadContent {
-                    seat: 1,
-                    entry: Entry(0),
-                    word: 3,
-                },
-                Event::LoadContent {
-                    seat: 1,
-                    entry: Entry(0),
-                    word: 4,
-                },
-            ],
-            Seen {
-                seats: [Some(WINNER), Some(LOSER)],
-                ..PUBLISHED
-            },
-        ),
-        (
-            "a join",
-            &[Event::Join { seat: 0, other: 1 }],
-            Seen {
-                seats: [Some(JOINED), Some(ENDED)],
-                ..PUBLISHED
-            },
-        ),
-    ];
     let mut core = Core::new(rt.alloc(), 16, 2)?;
     assert_eq!(rt; core.buckets.len(), 64);
     assert_eq!(rt; core.entries.len(), 18);
-    for (what, events, after) in &phases {
-        core = run(rt.alloc(), core, events)?;
+    for (phase, (what, after)) in PHASES.iter().enumerate() {
+        core = run(rt.alloc(), core, &steps_of(rt.alloc(), phase)?)?;
         assert_eq!(rt; look_at(&core), Some(*after), "{what}");
     }
     Ok(())
