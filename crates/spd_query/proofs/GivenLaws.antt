@@ -1,7 +1,6 @@
 -- The values that the words of a line give the variables.
-use Rattle.std.proofs.Common.{◌≡◌, ℕ, zero, suc, ◌+◌, ◌<◌, ◌≤◌, Bool, true, false, List, [], ◌∷◌, ◌++◌, length, map, take, drop, Option, Some, None, Result, Ok, Err, replicate, refl, sym, ap, ◌∙◌, subst, arith, append_assoc, append-nil, length-append, length-take-le}
+use Rattle.std.proofs.Common.{◌≡◌, ℕ, zero, suc, ◌+◌, ◌<◌, ◌≤◌, false, List, [], ◌∷◌, ◌++◌, length, map, take, drop, Option, Some, None, Result, Ok, Err, replicate, refl, sym, ap, ◌∙◌, subst, arith, append_assoc, append-nil, length-append, length-take-le}
 use Rattle.std.specs.Prelude.{All, slice_get, slice_set, option_map, ok_or, is_none, bytes_eq, codes, nat_lt, IfOk, IfSome, if◌then◌else◌}
-use Rattle.std.specs.List.{list_all}
 use Rattle.std.proofs.lemmas.Bool.{le-ltb}
 use Rattle.std.proofs.lemmas.List.{length-map, length-replicate, get_or-replicate, get_or_at, set_at, drop_more, drop_all, map_push, take_more_set}
 use Rattle.std.proofs.lemmas.List.Elements.{All-cons}
@@ -11,10 +10,9 @@ use Rattle.spd_model.specs.States.{IsState}
 use Rattle.spd_query.specs.declared.line.Reason.{Reason}
 use Rattle.spd_query.specs.declared.line.Reason.TheVariants.{Missing, Unknown, Twice, Pair}
 use Rattle.spd_model.specs.declared.process.Var.{Var}
-use Rattle.spd_query.specs.declared.line.Query.{Query}
-use Rattle.spd_query.specs.declared.line.Query.TheVariants.{State, Status}
+use Rattle.spd_query.specs.declared.line.Query.TheVariants.{State}
 use Rattle.spd_query.specs.inner.Places.{Stands, BeginsWithPair}
-use Rattle.spd_query.specs.Lines.{may_stand, words_of, gathered, sides_of, numbers_of, var_number, value_number, with_pair, with_word, with_words, state_of_words, asked, query_of_words, query_of}
+use Rattle.spd_query.specs.Lines.{words_of, gathered, sides_of, numbers_of, var_number, value_number, with_pair, with_word, with_words, state_of_words, asked, query_of}
 use Rattle.spd_query.proofs.WordLaws.{words-stand}
 
 -- a variable has no value
