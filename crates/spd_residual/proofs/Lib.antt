@@ -1,1 +1,5 @@
-
+mod LeafLaws
+mod GapLaws
+mod PlaceLaws
+mod ActionLaws
+mod ResultLaws
