@@ -1,5 +1,5 @@
 -- The gaps and the actions that bounds and their best have.
-use Rattle.std.proofs.Common.{◌≡◌, ℕ, ◌+◌, ◌<◌, ◌≤◌, Bool, true, not, cond, List, [], ◌∷◌, All, Contains, length, map, get_or, inl, inr, ℤ, pos, ◌-ℤ◌, ◌≤ℤ◌, refl, sym, ◌∙◌, ap, subst, arith}
+use Rattle.std.proofs.Common.{◌≡◌, ℕ, ◌+◌, ◌<◌, true, not, cond, List, [], ◌∷◌, All, Contains, length, map, get_or, inl, inr, ℤ, pos, ◌-ℤ◌, ◌≤ℤ◌, refl, sym, ◌∙◌, ap, subst, arith}
 use Rattle.std.specs.Int.{int_max}
 use Rattle.std.specs.List.{position_or_len, AllZip}
 use Rattle.std.specs.Ordering.{int_eq}
@@ -31,8 +31,8 @@ use Rattle.spd_backup.specs.Expected.{bound}
 use Rattle.spd_backup.specs.Thawing.{HasNumbers}
 use Rattle.spd_policy.specs.declared.chosen.Best.{Best}
 use Rattle.spd_policy.specs.Best.{numbers_at, greatest_of, policy_by, lows_in, highs_in, lows_of, highs_of, AreBest, AreBoundsOf}
-use Rattle.spd_residual.specs.Residual.{Gaps, greater_gap, gaps_in, gaps_of, IsValued, IsValueOfState, AreOrdered}
-use Rattle.spd_residual.specs.Finding.{HaveGaps, HaveActions, HasGap, first_upper}
+use Rattle.spd_residual.specs.Residual.{Gaps, gaps_in, gaps_of, IsValued, IsValueOfState, AreOrdered}
+use Rattle.spd_residual.specs.inner.Finding.{HaveGaps, HaveActions, HasGap, first_upper}
 use Rattle.spd_residual.proofs.GapLaws.{meaning-grows}
 
 value-within : (a : Leaf) → IsValue a → IsWithin greatest_value (number_of a)

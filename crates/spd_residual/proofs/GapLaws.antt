@@ -9,18 +9,16 @@ use Rattle.spd_model.specs.States.{IsState}
 use Rattle.spd_nodes.specs.declared.leaf.Leaf.{Leaf}
 use Rattle.spd_nodes.specs.declared.leaf.Leaf.TheVariants.{Num, Pair, Act}
 use Rattle.spd_nodes.specs.declared.forest.StoreFault.{StoreFault}
-use Rattle.spd_nodes.specs.Made.{MakesAll}
 use Rattle.spd_nodes.specs.Shown.{Shown, IsSound, Grows, StandsFor, MakesAmong, MakesDiagram, meaning}
 use Rattle.spd_nodes.specs.States.{Function, Agree}
 use Rattle.spd_nodes.proofs.CallerLemmas.{Among, IsIn, among-after, diagram-agrees, has-made, has-none, stands-grows, within-in}
-use Rattle.spd_apply.specs.Operations.{num_of, num_fits, in_i128, are_nums}
+use Rattle.spd_apply.specs.Operations.{num_of, num_fits, in_i128}
 use Rattle.spd_apply.specs.Outcome.{FitEverywhere, at_each}
 use Rattle.spd_weigh.specs.Leaves.{number_of, greatest_value, IsValue}
 use Rattle.spd_build.specs.Functions.{numbers}
 use Rattle.spd_policy.specs.declared.chosen.Best.{Best}
-use Rattle.spd_residual.specs.declared.gaps.GapDiagrams.{GapDiagrams}
 use Rattle.spd_residual.specs.Residual.{Gaps, greater_gap, residual_functions, IsValued}
-use Rattle.spd_residual.specs.Finding.{HaveGaps, AreGaps, MakesGaps}
+use Rattle.spd_residual.specs.inner.Finding.{HaveGaps, MakesGaps}
 
 -- ---- differences of values
 

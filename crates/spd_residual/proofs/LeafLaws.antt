@@ -1,5 +1,5 @@
 -- The leaf of a diagram at a present state where the next state is the same one, and the last leaf of a diagram.
-use Rattle.std.proofs.Common.{◌≡◌, ◌≢◌, inl, inr, ℕ, zero, suc, ◌+◌, ◌-◌, ◌*◌, ◌<◌, ◌≤◌, ◌==◌, Bool, true, false, cond, List, [], ◌∷◌, length, get_or, slice_get, Some, None, Contains, refl, sym, ◌∙◌, ap, subst, arith}
+use Rattle.std.proofs.Common.{◌≡◌, ◌≢◌, inl, inr, ℕ, zero, suc, ◌+◌, ◌-◌, ◌*◌, ◌<◌, ◌==◌, Bool, true, false, cond, List, [], ◌∷◌, length, get_or, slice_get, Some, None, Contains, refl, sym, ◌∙◌, ap, subst, arith}
 use Rattle.std.proofs.lemmas.Bool.{cases_lt, ne_eqb}
 use Rattle.std.proofs.lemmas.Bool.Decides.{Decides-eqb}
 use Rattle.std.proofs.lemmas.List.{get_or_default, set-get_or}
@@ -15,7 +15,7 @@ use Rattle.spd_nodes.specs.States.{Function, point}
 use Rattle.spd_nodes.specs.Trees.{Tests, value_at}
 use Rattle.spd_nodes.proofs.CallerLemmas.{IsState-point, passes-in, slot-of}
 use Rattle.spd_apply.specs.Leaves.{AreLeavesOf, leaf_before}
-use Rattle.spd_residual.specs.Finding.{IsLastLeaf}
+use Rattle.spd_residual.specs.inner.Finding.{IsLastLeaf}
 
 -- the value of a point of one state in either slot of a variable is the state's
 point-own : (sizes s : List ℕ) (var k : ℕ) → k < 2 → IsState sizes s → var < length sizes → get_or (point s s) (2 * var + k) 0 ≡ get_or s var 0

@@ -3,3 +3,4 @@ mod GapLaws
 mod PlaceLaws
 mod ActionLaws
 mod ResultLaws
+mod Rows

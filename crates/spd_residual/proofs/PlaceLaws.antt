@@ -1,12 +1,11 @@
 -- The greatest leaf of the greater gap is the residual, and where that leaf first stands is its place.
-use Rattle.std.proofs.Common.{◌≡◌, ◌⊎◌, inl, inr, ℕ, ◌<◌, Bool, true, false, ◌||◌, cond, List, [], ◌∷◌, All, length, get_or, find, Option, Some, None, unwrap_or, ℤ, pos, ◌≤ℤ◌, int_lt, refl, sym, ◌∙◌, ap, subst, arith}
+use Rattle.std.proofs.Common.{◌≡◌, ◌⊎◌, inl, inr, ℕ, ◌<◌, Bool, true, false, ◌||◌, cond, List, [], All, get_or, find, Option, Some, None, unwrap_or, ℤ, pos, ◌≤ℤ◌, int_lt, refl, sym, ◌∙◌, ap, subst, arith}
 use Rattle.std.specs.Prelude.{option_map}
 use Rattle.std.specs.Int.{int_max}
 use Rattle.std.specs.Ordering.{int_eq}
 use Rattle.std.proofs.lemmas.Bool.{false≢true}
 use Rattle.std.proofs.lemmas.Int.{ints, int_max_is, fold-int_max_bounds, fold-int_max_reached}
 use Rattle.spd_scaled.proofs.CallerLemmas.Ring.{int_eq-true, int_eq-holds, int_lt-true}
-use Rattle.spd_model.specs.Turns.{Place}
 use Rattle.spd_model.specs.States.{IsState, states, state_count, table_of}
 use Rattle.spd_model.proofs.CallerLemmas.StateOrder.{All-table_of_back, IsState-get_or, get_or-table_of, length-table_of}
 use Rattle.spd_nodes.specs.declared.leaf.Leaf.{Leaf}
@@ -26,7 +25,7 @@ use Rattle.spd_search.specs.Found.{first_found}
 use Rattle.spd_search.proofs.CallerLemmas.{found-is, found-none, found-state}
 use Rattle.spd_residual.specs.declared.gaps.GapDiagrams.{GapDiagrams}
 use Rattle.spd_residual.specs.Residual.{Gaps, greater_gap, residual_over, state_over, place_at_state, IsResidual}
-use Rattle.spd_residual.specs.Finding.{TellGaps, IsLastLeaf}
+use Rattle.spd_residual.specs.inner.Finding.{TellGaps, IsLastLeaf}
 
 -- ---- one of two gaps
 

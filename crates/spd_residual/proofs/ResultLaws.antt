@@ -1,21 +1,20 @@
 -- What a residual's call answers, by what it made and found on the way.
-use Rattle.std.proofs.Common.{◌≡◌, ℕ, ◌<◌, true, List, length, All, ℤ, refl, sym, ◌∙◌, ap, subst, Ok, Err}
+use Rattle.std.proofs.Common.{◌≡◌, ℕ, ◌<◌, true, List, length, All, ℤ, refl, sym, subst, Ok, Err}
 use Rattle.spd_cons_core.specs.declared.key.Entry.{Entry}
 use Rattle.spd_model.specs.Process.{Process}
-use Rattle.spd_model.specs.States.{sizes, IsState}
+use Rattle.spd_model.specs.States.{sizes}
 use Rattle.spd_nodes.specs.declared.forest.StoreFault.{StoreFault}
 use Rattle.spd_nodes.specs.declared.forest.StoreFault.TheVariants as F
 use Rattle.spd_nodes.specs.Made.{HasMade}
 use Rattle.spd_nodes.specs.Shown.{Shown, Grows}
 use Rattle.spd_backup.specs.declared.backing.Bounds.{Bounds}
-use Rattle.spd_backup.specs.Thawing.{HasNumbers}
 use Rattle.spd_frozen.specs.declared.iterate.Residual.{Residual}
 use Rattle.spd_policy.specs.declared.chosen.Best.{Best}
-use Rattle.spd_policy.specs.Best.{greatest_of, policy_by, lows_in, highs_in, AreBest, AreBoundsOf}
+use Rattle.spd_policy.specs.Best.{greatest_of, policy_by, lows_in, highs_in, AreBest}
 use Rattle.spd_residual.specs.declared.gaps.GapDiagrams.{GapDiagrams}
-use Rattle.spd_residual.specs.Residual.{Gaps, residual_functions, residual_over, place_over, IsResidual, FindsResidual, IsValueOfState, AreOrdered, gaps_in, gaps_of, IsResidualOf, FindsResidualOf}
-use Rattle.spd_residual.specs.Finding.{HaveGaps, MakesGaps, AreKnownAt, TellGaps}
-use Rattle.spd_residual.proofs.ActionLaws.{AreSame, actions-grow, actions-same, gap-same, gaps-same, has-gap, have-actions, have-gaps, process-same, upper-known}
+use Rattle.spd_residual.specs.Residual.{Gaps, residual_functions, IsResidual, FindsResidual, IsValueOfState, AreOrdered, gaps_in, gaps_of, FindsResidualOf}
+use Rattle.spd_residual.specs.inner.Finding.{HaveGaps, MakesGaps, AreKnownAt, TellGaps}
+use Rattle.spd_residual.proofs.ActionLaws.{AreSame, actions-grow, actions-same, gap-same, gaps-same, has-gap, have-actions, have-gaps, upper-known}
 
 -- ---- what was answered
 

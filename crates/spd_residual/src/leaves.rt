@@ -5,7 +5,7 @@ ghost use Rattle.spd_model.specs.States.{IsState};
 ghost use Rattle.spd_nodes.specs.Shown.{Shown, IsWhole, meaning};
 ghost use Rattle.spd_nodes.specs.Trees.{leaf_eq};
 ghost use Rattle.spd_weigh.specs.Leaves.{number_of};
-ghost use Rattle.spd_residual.specs.Finding.{first_upper, action_number, IsLastLeaf};
+ghost use Rattle.spd_residual.specs.inner.Finding.{first_upper, action_number, IsLastLeaf};
 
 use spd_apply::leaves_of;
 use spd_backup::Bounds;

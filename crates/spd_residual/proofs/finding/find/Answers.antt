@@ -4,7 +4,7 @@ use Rattle.std.proofs.lemmas.Int.{to_z-of_z}
 use Rattle.spd_nodes.specs.Shown.{Shown, meaning}
 use Rattle.spd_nodes.specs.Trees.{leaf_eq}
 use Rattle.spd_search.specs.Found.{first_found}
-use Rattle.spd_residual.specs.Finding.{TellGaps}
+use Rattle.spd_residual.specs.inner.Finding.{TellGaps}
 use Rattle.spd_residual.proofs.PlaceLaws.{found-in, found-some, is-number, residual-is}
 use Rattle.spd_residual.proofs.finding.find.Goals as goal
 

@@ -1,6 +1,6 @@
 use Rattle.std.proofs.Common.{sym, subst}
 use Rattle.spd_model.proofs.CallerLemmas.Results.{err_is}
-use Rattle.spd_residual.specs.Finding.{MakesGaps}
+use Rattle.spd_residual.specs.inner.Finding.{MakesGaps}
 use Rattle.spd_residual.proofs.GapLaws.{above-fails, all-made, below-fails, greater-fails}
 use Rattle.spd_residual.proofs.gaps.gaps_of.Goals as goal
 

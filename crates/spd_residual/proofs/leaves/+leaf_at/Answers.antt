@@ -1,7 +1,8 @@
-use Rattle.std.proofs.Common.{rules, ◌≡◌, ◌<◌, List, ℕ, get_or, true, length, sym, ◌∙◌, ap, subst, arith}
+use Rattle.std.proofs.Common.{rules, ◌≡◌, ◌<◌, List, ℕ, true, length, sym, ◌∙◌, ap, subst, arith}
 use Rattle.spd_model.specs.States.{IsState}
 use Rattle.spd_model.proofs.CallerLemmas.StateOrder.{length-IsState}
 use Rattle.spd_nodes.specs.Levels.{slots, IsTestOf}
+use Rattle.spd_nodes.specs.Shown.{meaning}
 use Rattle.spd_nodes.specs.Trees.{tree_rank}
 use Rattle.spd_nodes.proofs.CallerLemmas.{rank-view}
 use Rattle.spd_residual.proofs.LeafLaws.{leaf-no, leaf-yes}
@@ -39,7 +40,7 @@ returns-then-get-value-clause-leaf g t c =
     let sizes : c.layout.result.now ≡ s.sizes = c.layout.ensures.sizes ∙ ap (λ v. v.sizes) c.view.ensures.same in
     let test : IsTestOf s.sizes c.in-Test.level.0 c.what-var.result.0 c.what-var.result.1 c.what-var.result.2 =
     subst (λ (z : List ℕ). IsTestOf z c.in-Test.level.0 c.what-var.result.0 c.what-var.result.1 c.what-var.result.2) sizes c.what-var.ensures in
-    let below : c.leaf_at.result ≡ _ = rw c.view.ensures.same at c.leaf_at.ensures.leaf in
+    let below : c.leaf_at.result ≡ meaning s c.in-Test.yes c.args.state.now c.args.state.now = rw c.view.ensures.same at c.leaf_at.ensures.leaf in
     below ∙ sym (leaf-yes s c.args.r c.in-Test.yes c.in-Test.no c.in-Test.level.0 c.args.state.now c.what-var.result.0 c.what-var.result.2 c.what-var.result.1 c.in-Test.ensures.view.0 c.requires.state test (sym c.get.ensures ∙ c.if-get-value.true))
 
 pub returns-else-get-value-clause-leaf : goal.returns-else-get-value-clause-leaf
@@ -48,5 +49,5 @@ returns-else-get-value-clause-leaf g t c =
     let sizes : c.layout.result.now ≡ s.sizes = c.layout.ensures.sizes ∙ ap (λ v. v.sizes) c.view.ensures.same in
     let test : IsTestOf s.sizes c.in-Test.level.0 c.what-var.result.0 c.what-var.result.1 c.what-var.result.2 =
     subst (λ (z : List ℕ). IsTestOf z c.in-Test.level.0 c.what-var.result.0 c.what-var.result.1 c.what-var.result.2) sizes c.what-var.ensures in
-    let below : c.leaf_at-else-get-value.result ≡ _ = rw c.view.ensures.same at c.leaf_at-else-get-value.ensures.leaf in
+    let below : c.leaf_at-else-get-value.result ≡ meaning s c.in-Test.no c.args.state.now c.args.state.now = rw c.view.ensures.same at c.leaf_at-else-get-value.ensures.leaf in
     below ∙ sym (leaf-no s c.args.r c.in-Test.yes c.in-Test.no c.in-Test.level.0 c.args.state.now c.what-var.result.0 c.what-var.result.2 c.what-var.result.1 c.in-Test.ensures.view.0 c.requires.state test (λ e. c.if-get-value.false (c.get.ensures ∙ e)))
