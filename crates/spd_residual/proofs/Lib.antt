@@ -1,0 +1,6 @@
+mod LeafLaws
+mod GapLaws
+mod PlaceLaws
+mod ActionLaws
+mod ResultLaws
+mod Rows
