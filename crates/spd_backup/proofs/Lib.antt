@@ -2,7 +2,7 @@ mod BackLaws
 mod BoundLaws
 mod BridgeLaws
 mod BuiltLaws
-mod CallerLemmas
+pub mod CallerLemmas
 mod FreeLaws
 mod KeepingLaws
 mod PartLaws
