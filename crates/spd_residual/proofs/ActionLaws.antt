@@ -40,7 +40,7 @@ value-within (Num x) h = h
 value-within (Pair x y) h = absurd h
 value-within (Act x) h = absurd h
 
-within-value : (a : Leaf) (x : ℤ) → a ≡ Num x → IsWithin greatest_value x → IsValue a
+pub within-value : (a : Leaf) (x : ℤ) → a ≡ Num x → IsWithin greatest_value x → IsValue a
 within-value a x e h = subst IsValue (sym e) h
 
 -- ---- the numbers of one bound of each action
@@ -197,21 +197,21 @@ module _ (s : Shown) (g h : Gaps) (same : AreSame s.sizes g h) where
   pub gap-same : HasGap g s.sizes → HasGap h s.sizes
   gap-same k = record { at = λ x i. subst (λ z. pos 0 ≤ℤ z) (λ n. int_max (same.above x i n) (same.below x i n)) (k.at x i) }
 
-module _ (s : Shown) (m : Process) (v : List ℕ → ℤ) (way : Way) (x : List ℕ) (i : IsState s.sizes x) where
-  bound-numbers : (rs : List Entry) (actions : List Action) → AllZip (StandsFor s) rs (map (λ a. bound way m a v) actions)
-      → numbers_at (map (meaning s) rs) x x ≡ map (λ a. return_of (rounding_of way) m (expectation (rounding_of way) m v) a x) actions
+module _ (s : Shown) (m : Process) (v : List ℕ → ℤ) (way : Way) (x y : List ℕ) (i : IsState s.sizes x) (j : IsState s.sizes y) where
+  pub bound-numbers : (rs : List Entry) (actions : List Action) → AllZip (StandsFor s) rs (map (λ a. bound way m a v) actions)
+      → numbers_at (map (meaning s) rs) x y ≡ map (λ a. return_of (rounding_of way) m (expectation (rounding_of way) m v) a x) actions
   bound-numbers [] [] h = refl
   bound-numbers [] (a ∷ actions) h = absurd h
   bound-numbers (r ∷ rs) [] h = absurd h
   bound-numbers (r ∷ rs) (a ∷ actions) h =
       let own = h.0 in
-      let rest : numbers_at (map (meaning s) rs) x x ≡ map (λ b. return_of (rounding_of way) m (expectation (rounding_of way) m v) b x) actions = bound-numbers rs actions h.1 in
-      λ n. number_of (own.value.at x x i i n) ∷ rest n
+      let rest : numbers_at (map (meaning s) rs) x y ≡ map (λ b. return_of (rounding_of way) m (expectation (rounding_of way) m v) b x) actions = bound-numbers rs actions h.1 in
+      λ n. number_of (own.value.at x y i j n) ∷ rest n
 
 pub process-same : (s : Shown) (m : Process) (v : List ℕ → ℤ) (w : Entry) (bounds : List Bounds) → HasNumbers s w v → AreBoundsOf m v s bounds → AreSame s.sizes (gaps_in s w bounds) (gaps_of m v)
 process-same s m v w bounds numbers are = record {
-  above = λ x i. (λ n. greatest (bound-numbers s m v Up x i (highs_of bounds) m.actions are.high n) -ℤ number_of (numbers.at x i n));
-  below = λ x i. (λ n. number_of (numbers.at x i n) -ℤ greatest (bound-numbers s m v Down x i (lows_of bounds) m.actions are.low n));
-  highest = λ x i. ap (λ z. first_place (greatest z) z) (bound-numbers s m v Up x i (highs_of bounds) m.actions are.high);
-  policy = λ x i. ap (λ z. first_place (greatest z) z) (bound-numbers s m v Down x i (lows_of bounds) m.actions are.low);
+  above = λ x i. (λ n. greatest (bound-numbers s m v Up x x i i (highs_of bounds) m.actions are.high n) -ℤ number_of (numbers.at x i n));
+  below = λ x i. (λ n. number_of (numbers.at x i n) -ℤ greatest (bound-numbers s m v Down x x i i (lows_of bounds) m.actions are.low n));
+  highest = λ x i. ap (λ z. first_place (greatest z) z) (bound-numbers s m v Up x x i i (highs_of bounds) m.actions are.high);
+  policy = λ x i. ap (λ z. first_place (greatest z) z) (bound-numbers s m v Down x x i i (lows_of bounds) m.actions are.low);
 }

@@ -1,6 +1,8 @@
-mod LeafLaws
-mod GapLaws
-mod PlaceLaws
 mod ActionLaws
+pub mod CallerLemmas
+mod GapLaws
+mod LeafLaws
+mod PlaceLaws
+mod ProcessLaws
 mod ResultLaws
 mod Rows
