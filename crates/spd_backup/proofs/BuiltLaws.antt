@@ -16,7 +16,7 @@ use Rattle.spd_nodes.specs.Made.{MakesAll}
 use Rattle.spd_nodes.specs.Shown.{Shown, IsSound, Grows, MakesOnly, Faults, FaultsAt, StandsFor}
 use Rattle.spd_nodes.specs.States.{Function, Agree, point, plain_part, primed_part, test_trees}
 use Rattle.spd_nodes.specs.Trees.{Tree}
-use Rattle.spd_nodes.proofs.CallerLemmas.{Among, IsIn, IsState-point, among-back, among-front, fault-wider, has-then, has-wider, positive-slots, stand-grow, stand-length, stand-push, test_tree-agree, within-in}
+use Rattle.spd_nodes.proofs.CallerLemmas.{Among, IsIn, IsState-point, among-back, among-front, fault-wider, has-then, has-wider, positive-slots, stand-grow, stand-length, stand-push, test_tree-agree, within-in, plain_part-point, primed_part-point}
 use Rattle.spd_restrict.specs.Chosen.{function_at}
 use Rattle.spd_frozen.specs.Fits.{FitsSizes}
 use Rattle.spd_frozen.specs.Mixed.{mixed_of}
@@ -121,21 +121,6 @@ all-same s t fs gs e r h = record {
 
 -- ---- the lists of a process
 
-plain-back : (sizes s t : List ℕ) → IsState sizes s → IsState sizes t → plain_part (point s t) ≡ s
-plain-back [] [] t p q = refl
-plain-back [] (x ∷ s) t p q = absurd p
-plain-back (d ∷ ds) [] t p q = absurd p
-plain-back (d ∷ ds) (x ∷ s) [] p q = absurd q
-plain-back (d ∷ ds) (x ∷ s) (y ∷ t) p q = ap (λ r. x ∷ r) (plain-back ds s t p.1 q.1)
-
-primed-back : (sizes s t : List ℕ) → IsState sizes s → IsState sizes t → primed_part (point s t) ≡ t
-primed-back [] [] [] p q = refl
-primed-back [] [] (y ∷ t) p q = absurd q
-primed-back [] (x ∷ s) t p q = absurd p
-primed-back (d ∷ ds) [] t p q = absurd p
-primed-back (d ∷ ds) (x ∷ s) [] p q = absurd q
-primed-back (d ∷ ds) (x ∷ s) (y ∷ t) p q = ap (λ r. y ∷ r) (primed-back ds s t p.1 q.1)
-
 all-positive : (ds : List ℕ) → AllPositive ds → ArePositive ds
 all-positive [] h = All-nil (λ d. 0 < d)
 all-positive (d ∷ ds) h = All-cons (λ d. 0 < d) d ds h.0 (all-positive ds h.1)
@@ -153,8 +138,8 @@ module _ (s : Shown) (o : IsSound s) where
   mixed-agrees : (f : Function) → Agree s.sizes (mixed_function (mixed_of s.sizes f)) f
   mixed-agrees f = record {
     at = λ x y p q.
-        let a = plain-back s.sizes x y p q in
-        let b = primed-back s.sizes x y p q in
+        let a = plain_part-point s.sizes x y p q in
+        let b = primed_part-point s.sizes x y p q in
         frozen-leaf_at (slots s.sizes) (λ p. f (plain_part p) (primed_part p)) some-slots (point x y) (IsState-point s.sizes x y p q) ∙ (λ i. f (a i) (b i));
   }
 

@@ -16,7 +16,7 @@ use Rattle.spd_nodes.specs.States.{Function, Agree, point}
 use Rattle.spd_nodes.specs.Trees.{Tree, Ends, Tests, IsFrom, IsAt, IsReduced, value_at}
 use Rattle.spd_nodes.proofs.CallerLemmas.{Parts, after_above, parts, passes-before, passes-past, stands-for}
 use Rattle.spd_restrict.specs.Restricted.{restricted}
-use Rattle.spd_restrict.proofs.CallerLemmas.{set-primed}
+use Rattle.spd_restrict.proofs.CallerLemmas.{set-primed, RootFrom, root-from, root-at}
 use Rattle.spd_weigh.specs.declared.way.Way.{Way}
 use Rattle.spd_weigh.specs.declared.way.Way.TheVariants.{Down, Up}
 use Rattle.spd_weigh.specs.Leaves.{rounding_of, number_of, HasValues}
@@ -51,19 +51,6 @@ free-stands s o way var ws r k whole weights values free =
     stands-for s o r (summed_out way var ws (meaning s r)) k whole (record { at = λ x y p q. sym (same.at x y p q) })
 
 -- ---- the search
-
--- the root isn't before a level
-abbrev RootFrom : ℕ → Tree → Type 0
-RootFrom e (Ends a) = Unit {0}
-RootFrom e (Tests l y n) = e ≤ l
-
-root-from : (ds : List ℕ) (e k : ℕ) (t : Tree) → e ≤ k → IsFrom ds 0 k t → RootFrom e t
-root-from ds e k (Ends a) h f = tt
-root-from ds e k (Tests l y n) h f = omega (arith, f.0)
-
-root-at : (e k : ℕ) (t : Tree) → e ≤ k → IsAt k t → RootFrom e t
-root-at e k (Ends a) h f = tt
-root-at e k (Tests l y n) h f = omega (arith, f)
 
 -- past the slot none of its tests stands
 past-none : (ds : List ℕ) (first end : ℕ) (t : Tree) → IsReduced ds 0 t → RootFrom end t → TestsNone first end t
@@ -101,10 +88,6 @@ past-free s o r y n first end l k e h = past-none (slots s.sizes) first end (s.t
 -- a test before it, of whose children neither reaches one
 pub both-free : (s : Shown) (r y n : Entry) (first end l : ℕ) → s.tree r ≡ Tests l (s.tree y) (s.tree n) → l < first → TestsNone first end (s.tree y) → TestsNone first end (s.tree n) → TestsNone first end (s.tree r)
 both-free s r y n first end l e h a b = rw e (inl h, a, b)
-
--- a leaf
-pub leaf-free : (s : Shown) (r : Entry) (first end : ℕ) (a : _) → s.tree r ≡ Ends a → TestsNone first end (s.tree r)
-leaf-free s r first end a e = rw e tt
 
 pub none-seen : (first end : ℕ) (s : Shown) (refs : List Entry) → refs ≡ [] → AreFree first end s refs
 none-seen first end s refs e = record { each = λ q m. absurd (let h = subst (λ (l : List Entry). Contains l q) e m in omega (arith, h.1)) }

@@ -20,17 +20,7 @@ use Rattle.spd_backup.specs.declared.tables.WayTables.{WayTables}
 use Rattle.spd_backup.specs.declared.tables.LastSum.{LastSum}
 use Rattle.spd_backup.specs.declared.tables.SumTables.{SumTables}
 use Rattle.spd_backup.specs.Keeping.{IsSumOf, IsSummed, HoldVariable, HoldEachSum, HoldWay, HoldAdds, HoldAll, IsPrimed}
-use Rattle.spd_nodes.proofs.CallerLemmas.{stands-grows}
-
-meaning-grows : (s t : Shown) (r : Entry) → Grows s t → s.knows r ≡ true → meaning t r ≡ meaning s r
-meaning-grows s t r g k = λ i. function_of (g.sizes i) (g.trees r k i)
-
-meanings-grow : (s t : Shown) (rs : List Entry) → Grows s t → AreKnown s rs → map (meaning t) rs ≡ map (meaning s) rs
-meanings-grow s t [] g k = refl
-meanings-grow s t (r ∷ rs) g k =
-    let first = meaning-grows s t r g (All-head (λ q. s.knows q ≡ true) r rs k) in
-    let others = meanings-grow s t rs g (All-tail (λ q. s.knows q ≡ true) r rs k) in
-    λ i. first i ∷ others i
+use Rattle.spd_nodes.proofs.CallerLemmas.{stands-grows, meaning-grows, meanings-grow}
 
 -- a forest that grew shows the same sum of what it knew
 sum-grows : (way : Way) (var : ℕ) (s t : Shown) (of : Entry) (ws : List Entry) (r : Entry) → Grows s t → s.knows of ≡ true → AreKnown s ws

@@ -9,6 +9,7 @@ use Rattle.std.proofs.lemmas.List.Folds.{list_any-append}
 use Rattle.spd_scaled.proofs.CallerLemmas.Ring.{int_lt-true, int_lt-false, int_eq-true, int_eq-holds}
 use Rattle.spd_scaled.proofs.CallerLemmas.DivisionLaws.{floor_div_at_most, floor_div_next_above}
 use Rattle.spd_model.specs.Ranges.{Range, is_same, is_before, with_range, in_order, Group, group_of, joined, groups_from, groups_of, middle_of, value_in}
+use Rattle.spd_model.proofs.CallerLemmas.Ranges.{is_same_itself}
 
 -- ---- the ranges in order
 
@@ -62,9 +63,6 @@ in_order_ascends before [] h = h
 in_order_ascends before (p ∷ ps) h = in_order_ascends (with_range before p) ps (with_range_ascends before p h)
 
 -- ---- each range is among them
-
-is_same_itself : (p : Range) → is_same p p ≡ true
-is_same_itself p = and_from _ _ (int_eq-holds p.low p.low refl) (int_eq-holds p.high p.high refl)
 
 abbrev IsAmong : Range → List Range → Type 0
 IsAmong p qs = list_any (is_same p) qs ≡ true

@@ -5,7 +5,8 @@ ghost use Rattle.spd_nodes.specs.Shown.{Shown, Grows};
 ghost use Rattle.spd_bench.specs.Built.{twos, IsKnownLeaf};
 
 use crate::fault::BenchError;
-use spd_nodes::{Forest, Leaf, Level, Ref, Steps, StoreFault};
+use crate::workload::Measure;
+use spd_nodes::{Counting, Forest, Leaf, Level, Ref, Steps, StoreFault};
 use std::alloc::Global;
 use std::sync::ledger::Ledger;
 
@@ -20,7 +21,7 @@ const LAST_LEVEL: u16 = 39;
 
 /// In which order the ordered pairs of some leaves are gone through.
 #[derive(Clone, Copy)]
-pub enum Order {
+enum Order {
     /// The tests where one leaf is the left child come together.
     Rows,
     /// The tests where one leaf is the right child come together.
@@ -28,7 +29,7 @@ pub enum Order {
 }
 
 /// Asks for the leaves 0 to 999,999, and answers the greatest number of their entries.
-pub fn ask_leaves<F: Forest, L: Ledger>(
+fn ask_leaves<F: Forest, L: Ledger>(
     forest: &mut F,
     steps: &mut Steps<L>,
 ) -> Result<u32, StoreFault> {
@@ -125,7 +126,7 @@ fn ask_pairs<F: Forest, L: Ledger>(
 /// Asks for the leaves 0 to 999 and for the 999,000 tests of the last variable's first value whose children are two
 /// different ones of them, each pair of children once, and answers the greatest number of their entries.
 #[tactic(auto, using(crate::proofs::KnownLaws::known_laws))]
-pub fn ask_tests<F: Forest, L: Ledger>(
+fn ask_tests<F: Forest, L: Ledger>(
     alloc: Global,
     forest: &mut F,
     order: Order,
@@ -136,4 +137,32 @@ pub fn ask_tests<F: Forest, L: Ledger>(
 {
     let leaves = children(alloc, forest, steps)?;
     Ok(ask_pairs(forest, &leaves, order, steps)?)
+}
+
+/// Asks for the leaves twice, and adds the measure of their entries.
+pub fn measure_leaves<F: Forest, L: Ledger>(
+    forest: &mut Counting<F>,
+    measures: &mut Vec<Measure>,
+    steps: &mut Steps<L>,
+) -> Result<(), BenchError> {
+    let _ = ask_leaves(forest, steps)?;
+    let greatest = ask_leaves(forest, steps)?;
+    measures.push(Measure::of_entries("leaves", greatest, forest.calls))?;
+    Ok(())
+}
+
+/// Asks for the tests twice, the second time with the children in the other order, and adds the measure of their entries.
+#[tactic(auto, using(crate::proofs::KnownLaws::known_laws))]
+pub fn measure_tests<F: Forest, L: Ledger>(
+    alloc: Global,
+    forest: &mut Counting<F>,
+    measures: &mut Vec<Measure>,
+    steps: &mut Steps<L>,
+) -> Result<(), BenchError>
+    requires { (F.shows forest.old.forest).sizes ≡ twos 20 }
+{
+    let _ = ask_tests(alloc, forest, Order::Rows, steps)?;
+    let greatest = ask_tests(alloc, forest, Order::Columns, steps)?;
+    measures.push(Measure::of_entries("tests", greatest, forest.calls))?;
+    Ok(())
 }

@@ -30,7 +30,7 @@ mod fault;
 mod workload;
 
 use crate::diagrams::measure_diagrams;
-use crate::entries::{Order, ask_leaves, ask_tests};
+use crate::entries::{measure_leaves, measure_tests};
 use crate::fault::BenchError;
 use crate::workload::{Measure, Request, Workload};
 use spd_nodes::{Alone, Counting, Layout, Steps};
@@ -65,16 +65,8 @@ fn run<L: Ledger>(
     let forest = Alone::new(alloc, Layout::new(alloc, &SIZES)?, LIMIT)?;
     let mut counting = Counting { forest, calls: 0 };
     match workload {
-        Workload::Leaves => {
-            let _ = ask_leaves(&mut counting, &mut steps)?;
-            let greatest = ask_leaves(&mut counting, &mut steps)?;
-            measures.push(Measure::of_entries("leaves", greatest, counting.calls))?;
-        }
-        Workload::Tests => {
-            let _ = ask_tests(alloc, &mut counting, Order::Rows, &mut steps)?;
-            let greatest = ask_tests(alloc, &mut counting, Order::Columns, &mut steps)?;
-            measures.push(Measure::of_entries("tests", greatest, counting.calls))?;
-        }
+        Workload::Leaves => measure_leaves(&mut counting, measures, &mut steps)?,
+        Workload::Tests => measure_tests(alloc, &mut counting, measures, &mut steps)?,
         Workload::Diagrams => measure_diagrams(alloc, &mut counting, measures, &mut steps)?,
     }
     Ok(counting.calls)

@@ -10,3 +10,4 @@ pub mod WeighingLaws
 pub mod PlaceLaws
 mod TableRows
 mod RewardRows
+pub mod LayoutLaws

@@ -11,7 +11,7 @@ use Rattle.spd_model.specs.Lawful.{IsLawful}
 use Rattle.spd_model.specs.Numbers.{numbers_below}
 use Rattle.spd_model.specs.States.{sizes, states, IsState}
 use Rattle.spd_model.specs.Chances.{Sum, one, sum_of}
-use Rattle.spd_model.proofs.CallerLemmas.Lists.{All-flat_map, length-numbers_below}
+use Rattle.spd_model.proofs.CallerLemmas.Lists.{All-flat_map, length-numbers_below, map-map}
 use Rattle.spd_model.proofs.CallerLemmas.StateOrder.{All-states, sizes_some}
 use Rattle.spd_nodes.specs.States.{Function, Agree}
 use Rattle.spd_frozen.specs.Told.{number_of}
@@ -19,6 +19,7 @@ use Rattle.spd_search.specs.declared.found.Found.{Found}
 use Rattle.spd_search.specs.Found.{state_pairs, found_at, first_found}
 use Rattle.spd_build.specs.Functions.{weight_sum}
 use Rattle.spd_build.specs.Tables.{first_wrong, is_wrong, variable_sums}
+use Rattle.spd_search.proofs.CallerLemmas.{option_or-same}
 
 -- ---- searches that find the same
 
@@ -28,25 +29,17 @@ find-flat-same p f g (x ∷ xs) h =
     find-append p (f x) (flat_map f xs) ∙ (λ k. option_or (h x k) (find-flat-same p f g xs h k)) ∙ sym (find-append p (g x) (flat_map g xs))
 
 -- the same entries again and again
-again : {Y : Type 0} (o : Option Y) → option_or o o ≡ o
-again None = refl
-again (Some y) = refl
-
 find-again : {X Y : Type 0} (p : Y → Bool) (ys : List Y) (x : X) (xs : List X) → find p (flat_map (λ (u : X). ys) (x ∷ xs)) ≡ find p ys
 find-again p ys x [] = find-append p ys [] ∙ nothing (find p ys)
   where
     nothing : {Y : Type 0} (o : Option Y) → option_or o None ≡ o
     nothing None = refl
     nothing (Some y) = refl
-find-again p ys x (z ∷ xs) = find-append p ys (flat_map (λ u. ys) (z ∷ xs)) ∙ ap (λ o. option_or (find p ys) o) (find-again p ys z xs) ∙ again (find p ys)
+find-again p ys x (z ∷ xs) = find-append p ys (flat_map (λ u. ys) (z ∷ xs)) ∙ ap (λ o. option_or (find p ys) o) (find-again p ys z xs) ∙ option_or-same (find p ys)
 
 find-some : {X Y : Type 0} (p : Y → Bool) (ys : List Y) (xs : List X) → 0 < length xs → find p (flat_map (λ (u : X). ys) xs) ≡ find p ys
 find-some p ys [] h = absurd (omega arith)
 find-some p ys (x ∷ xs) h = find-again p ys x xs
-
-map-twice : {X Y Z : Type 0} (f : Y → Z) (g : X → Y) (xs : List X) → map f (map g xs) ≡ map (λ x. f (g x)) xs
-map-twice f g [] = refl
-map-twice f g (x ∷ xs) = ap (λ l. f (g x) ∷ l) (map-twice f g xs)
 
 map-flat : {X Y Z : Type 0} (f : Y → Z) (g : X → List Y) (xs : List X) → map f (flat_map g xs) ≡ flat_map (λ x. map f (g x)) xs
 map-flat f g [] = refl
@@ -67,7 +60,7 @@ find-dropped p q (suc k) (d ∷ ds) some =
   where
     same : (vs : List ℕ) → flat_map (λ v. map (λ t. q (drop (suc k) t)) (map (λ s. v ∷ s) (states ds))) vs ≡ flat_map (λ v. map (λ t. q (drop k t)) (states ds)) vs
     same [] = refl
-    same (v ∷ vs) = λ n. map-twice (λ t. q (drop (suc k) t)) (λ s. v ∷ s) (states ds) n ++ same vs n
+    same (v ∷ vs) = λ n. map-map (λ t. q (drop (suc k) t)) (λ s. v ∷ s) (states ds) n ++ same vs n
 
 -- what is found among images, by what is found among the entries
 module _ {X Y Z : Type 0} (p : Y → Bool) (w : Z → Bool) (f : Z → Y) (g : Z → X) (c : X → Y) where
@@ -99,7 +92,7 @@ map-pairs : {Y : Type 0} (f : List ℕ × List ℕ → Y) (ss ts : List (List �
 map-pairs f [] ts = refl
 map-pairs f (s ∷ ss) ts =
     map-append f (map (λ t. (s, t)) ts) (flat_map (λ s. map (λ t. (s, t)) ts) ss)
-    ∙ (λ n. map-twice f (λ t. (s, t)) ts n ++ map-pairs f ss ts n)
+    ∙ (λ n. map-map f (λ t. (s, t)) ts n ++ map-pairs f ss ts n)
 
 module _ (m : Process) (law : IsLawful m) (k : ℕ) (a : Action) (i : ℕ) (f : Function) (same : Agree (sizes m) f (weight_sum m a i (slice_index (sizes m) i))) where
   sum_from : List ℕ → List ℕ → Sum

@@ -1,5 +1,5 @@
 -- Sums of parts and rewards as diagrams.
-use Rattle.std.proofs.Common.{◌≡◌, ℕ, zero, suc, ◌+◌, ◌*◌, ◌^◌, ◌<◌, ◌≤◌, List, [], ◌∷◌, ◌++◌, length, map, flat_map, get_or, take, refl, sym, ◌∙◌, ap, subst, arith, true, ℤ, pos, negsuc, ◌+ℤ◌, ◌-ℤ◌, All, Contains, Bool, if◌then◌else◌, slice_index}
+use Rattle.std.proofs.Common.{◌≡◌, ℕ, ◌+◌, ◌*◌, ◌^◌, ◌<◌, ◌≤◌, List, [], ◌∷◌, length, map, get_or, take, refl, sym, ◌∙◌, ap, subst, arith, true, ℤ, pos, negsuc, ◌+ℤ◌, ◌-ℤ◌, All, Contains, Bool, if◌then◌else◌, slice_index}
 use Rattle.std.proofs.lemmas.Int.{ints}
 use Rattle.std.proofs.lemmas.Bool.Decides.{Decides-ltb}
 use Rattle.std.proofs.lemmas.List.{take_all, length-take}
@@ -17,7 +17,7 @@ use Rattle.spd_model.specs.Trees.{Part, number, choice, missing, parts_of, value
 use Rattle.spd_model.proofs.CallerLemmas.Sums.{total_more}
 use Rattle.spd_model.proofs.CallerLemmas.TreeValues.{value_within, value_same, GoesAlike}
 use Rattle.spd_nodes.specs.declared.leaf.Leaf.TheVariants.{Num}
-use Rattle.spd_nodes.specs.States.{Function, Agree}
+use Rattle.spd_nodes.specs.States.{Agree}
 use Rattle.spd_nodes.specs.Shown.{Shown, StandsFor, meaning}
 use Rattle.spd_nodes.proofs.CallerLemmas.{stand-length}
 use Rattle.spd_apply.specs.Operations.{in_i128, num_of, num_fits}
@@ -90,10 +90,6 @@ module _ (m : Process) (trees : List Tree) (law : AreRewards m trees) (i : ℕ) 
 
   pub more-agrees : Agree t.sizes (at_each (num_of (λ b c. b +ℤ c)) (meaning t sum) (meaning t tree)) (part_sum m trees (i + 1))
   more-agrees = record { at = more-is }
-
--- all parts
-pub all-of-them : (m : Process) (trees : List Tree) (i : ℕ) → length trees ≤ i → part_sum m trees i ≡ all_parts m trees
-all-of-them m trees i past = λ k x y. Num (total (map (λ tree. value_of m tree x y) ((take_all i trees past ∙ sym (take_all (length trees) trees (omega arith))) k)))
 
 -- ---- trees of the present state alone
 

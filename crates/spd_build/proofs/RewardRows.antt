@@ -1,6 +1,6 @@
 -- The definitions on two models of one variable that stays as it is. In the first a reward passes its limit. In the second one action
 -- costs 0.25 more than the other one.
-use Rattle.std.proofs.Common.{◌≡◌, ℕ, [], ◌∷◌, List, length, map, refl, pos, codes, Some, None, true, false}
+use Rattle.std.proofs.Common.{◌≡◌, ℕ, [], ◌∷◌, length, map, refl, pos, codes, Some, None, true, false}
 use Rattle.spd_model.specs.declared.tree.Tree.{Tree, Leaf, Branch}
 use Rattle.spd_model.specs.declared.tree.Tree.TheBlock.{shape-the_row-Tree-0, hidden-the_row-Tree-0}
 use denote.Hole.Carrier
@@ -12,7 +12,7 @@ use Rattle.spd_model.specs.Chances.{reward_of, first_wrong_sum, first_wide_rewar
 use Rattle.spd_model.specs.Reduced.{Node}
 use Rattle.spd_nodes.specs.declared.leaf.Leaf.TheVariants.{Num}
 use Rattle.spd_build.specs.Built.{frozen_numbers}
-use Rattle.spd_build.specs.Functions.{reward, start, building_functions}
+use Rattle.spd_build.specs.Functions.{reward}
 use Rattle.spd_build.specs.Building.{net_functions}
 
 abbrev leaf : ℕ → Tree

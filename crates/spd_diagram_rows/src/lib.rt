@@ -6,9 +6,9 @@ mod binary;
 #[cfg(test)]
 mod cases;
 #[cfg(test)]
-mod deep;
+mod choosing;
 #[cfg(test)]
-mod forests;
+mod deep;
 #[cfg(test)]
 mod groves;
 #[cfg(test)]
@@ -18,11 +18,11 @@ mod indicators;
 #[cfg(test)]
 mod leaf_order;
 #[cfg(test)]
-mod machine;
-#[cfg(test)]
 mod maps;
 #[cfg(test)]
-mod memos;
+mod measuring;
+#[cfg(test)]
+mod merging;
 #[cfg(test)]
 mod reading;
 #[cfg(test)]

@@ -165,12 +165,7 @@ impl Table {
         let more = if self.most / 2 <= places {
             self.most
         } else {
-            places * 2
-        };
-        let more = if more < FIRST_PLACES && FIRST_PLACES <= self.most {
-            FIRST_PLACES
-        } else {
-            more
+            (places * 2).max(FIRST_PLACES).min(self.most)
         };
         if let Ok(mut table) = Table::with_places(alloc, self.width, self.most, more) {
             table.take_over(self);

@@ -1,5 +1,5 @@
 -- What callers' proofs cite of the definitions: lists and sums, the exit of a `?`, the order of the states, tables, trees, what is first, validity,
--- chances, bounded values, and the residual.
+-- chances, bounded values, the residual, and ranges.
 pub mod Lists
 pub mod Results
 pub mod Sums
@@ -12,4 +12,5 @@ pub mod Validity
 pub mod Chances
 pub mod Bounded
 pub mod Gaps
+pub mod Ranges
 pub mod Diagrams

@@ -2,13 +2,13 @@
 use Rattle.std.proofs.Common.{◌≡◌, ◌⊎◌, ℕ, zero, suc, ◌+◌, ◌<◌, List, [], ◌∷◌, ◌++◌, length, map, flat_map, get_or, take, refl, sym, ap, ◌∙◌, subst, arith, inl, inr, Result, Ok, Err, IfErr, All, true}
 use Rattle.std.specs.List.{AllZip}
 use Rattle.std.proofs.lemmas.List.{take_more, map_push}
-use Rattle.std.proofs.lemmas.List.Elements.{All-nil, All-cons}
+use Rattle.std.proofs.lemmas.List.Elements.{All-nil, All-cons, All-head, All-tail}
 use Rattle.spd_cons_core.specs.declared.key.Entry.{Entry}
 use Rattle.spd_nodes.specs.declared.forest.StoreFault.{StoreFault}
 use Rattle.spd_nodes.specs.declared.forest.StoreFault.TheVariants as F
 use Rattle.spd_nodes.specs.Trees.{Tree, IsNode, IsNodeOf}
-use Rattle.spd_nodes.specs.States.{Function, test_tree, test_trees}
-use Rattle.spd_nodes.specs.Shown.{Shown, IsSound, IsWhole, Grows, MakesOnly, MakesAmong, StandsFor, FaultsAt}
+use Rattle.spd_nodes.specs.States.{Function, function_of, test_tree, test_trees}
+use Rattle.spd_nodes.specs.Shown.{Shown, IsSound, IsWhole, Grows, MakesOnly, MakesAmong, StandsFor, FaultsAt, meaning}
 use Rattle.spd_nodes.proofs.ShownLaws.{Within, grows-none, grows-then, makes-none, makes-then, makes-within, faults-within, stands-grows}
 use Rattle.spd_nodes.specs.Made.{HasMade, MakesAll}
 
@@ -156,3 +156,15 @@ among-both {s = s} {t = t} {v = v} {nodes = nodes} m n = record {
   makes = makes-then m.sound n.grows m.makes (subst (λ (z : List ℕ). MakesOnly t v (test_trees z nodes)) m.grows.sizes n.makes);
   fault = n.fault;
 }
+
+-- ---- functions stay
+
+pub meaning-grows : (s t : Shown) (r : Entry) → Grows s t → s.knows r ≡ true → meaning t r ≡ meaning s r
+meaning-grows s t r g k = λ i. function_of (g.sizes i) (g.trees r k i)
+
+pub meanings-grow : (s t : Shown) (rs : List Entry) → Grows s t → All (λ r. s.knows r ≡ true) rs → map (meaning t) rs ≡ map (meaning s) rs
+meanings-grow s t [] g k = refl
+meanings-grow s t (r ∷ rs) g k =
+    let first = meaning-grows s t r g (All-head (λ q. s.knows q ≡ true) r rs k) in
+    let rest = meanings-grow s t rs g (All-tail (λ q. s.knows q ≡ true) r rs k) in
+    λ i. first i ∷ rest i

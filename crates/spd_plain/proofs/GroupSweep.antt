@@ -14,7 +14,9 @@ use Rattle.spd_scaled.specs.Scaled.{floor_div}
 use Rattle.spd_model.specs.Ranges.{Range, Group, group_of, groups_from, groups_of, joined, is_same, middle_of, value_in}
 use Rattle.spd_plain.specs.declared.ranges.Bounds.{Bounds}
 use Rattle.spd_plain.specs.inner.Bounds.{range_of, bounds_cmp}
-use Rattle.spd_plain.proofs.RangeOrder.{other_if_below, is_same_itself}
+use Rattle.spd_plain.proofs.RangeOrder.{other_if_below}
+use Rattle.spd_model.proofs.CallerLemmas.Ranges.{is_same_itself}
+use Rattle.spd_model.proofs.CallerLemmas.Greatest.{max_itself}
 
 -- the middle of its group for each member
 abbrev pub middles : Group → List ℤ
@@ -150,13 +152,6 @@ pub swept_ends : (span low high : ℤ) (i n : ℕ) (values target : List ℤ) (r
 swept_ends span low high i n values target rs h k l e =
     let none : drop i (map range_of rs) ≡ [] = drop_all i (map range_of rs) (rw (length-map rs range_of) (omega arith)) in
     rw (← h, l, take_all i values k) (rw none at e)
-
-same : (b : Bool) (x : ℤ) → (if b then x else x) ≡ x
-same true x = refl
-same false x = refl
-
-max_itself : (x : ℤ) → int_max x x ≡ x
-max_itself x = same (int_lt x x) x
 
 same_lists : (b : Bool) (xs : List ℤ) → (if b then xs else xs) ≡ xs
 same_lists true xs = refl

@@ -14,6 +14,7 @@ pub mod SweepLaws
 pub mod Runs
 pub mod Shapes
 pub mod Told
+mod FaultCauses
 mod LimitRows
 mod RangeRows
 pub mod BitTests

@@ -14,7 +14,8 @@ use Rattle.std.proofs.lemmas.Map.Keys.{Less-from_sorted}
 use Rattle.spd_model.specs.Ranges.{Range, is_same, is_before, with_range, in_order}
 use Rattle.spd_plain.specs.declared.ranges.Bounds.{Bounds}
 use Rattle.spd_plain.specs.inner.Bounds.{range_of, bounds_cmp}
-use Rattle.spd_plain.proofs.RangeOrder.{bounds_cmp_total, is_same_itself, is_same_is}
+use Rattle.spd_plain.proofs.RangeOrder.{bounds_cmp_total, is_same_is}
+use Rattle.spd_model.proofs.CallerLemmas.Ranges.{is_same_itself}
 
 -- ---- each range of a list is among its distinct ranges
 

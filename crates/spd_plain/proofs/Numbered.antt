@@ -1,14 +1,9 @@
 -- An action with its number.
-use Rattle.std.proofs.Common.{◌≡◌, ◌∙◌, ℕ, ◌+◌, ◌<◌, List, length, get_or, Option, Some, None, refl, sym, arith}
+use Rattle.std.proofs.Common.{◌≡◌, ◌∙◌, ℕ, ◌+◌, ◌<◌, List, length, get_or, refl, sym, arith}
 use Rattle.std.specs.List.{enumerate_from}
-use Rattle.std.specs.Option.{option_map, is_some}
 use Rattle.std.proofs.lemmas.List.FromFn.{get_or-enumerate_from}
 use Rattle.spd_model.specs.declared.process.Action.{Action}
 
 pub numbered : (actions : List Action) (k : ℕ) (a : Action) → k < length actions → a ≡ get_or actions k a → get_or (enumerate_from 0 actions) k (k, a) ≡ (k, a)
 numbered actions k a near here =
     let at : 0 + k ≡ k = omega arith in get_or-enumerate_from 0 actions k (k, a) near ∙ (λ i. (at i, sym here i))
-
-pub is_some-option_map : {X Y : Type 0} (f : X → Y) (o : Option X) → is_some (option_map f o) ≡ is_some o
-is_some-option_map f None = refl
-is_some-option_map f (Some x) = refl

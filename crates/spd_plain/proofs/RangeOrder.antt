@@ -72,6 +72,3 @@ not_same c Greater e h = refl
 pub other_if_below : (a b : Bounds) → bounds_cmp a b ≡ Less → is_same (range_of b) (range_of a) ≡ false
 other_if_below a b h =
     is_same_is (range_of b) (range_of a) ∙ not_same (bounds_cmp a b) (bounds_cmp b a) h (bounds_cmp_total.antisymm a b)
-
-pub is_same_itself : (p : Range) → is_same p p ≡ true
-is_same_itself p = rw (int_eq_equiv.refl p.low, int_eq_equiv.refl p.high) refl

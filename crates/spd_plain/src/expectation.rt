@@ -20,7 +20,7 @@ use spd_scaled::{ceil_div, floor_div};
 use std::alloc::{AllocError, Global};
 
 /// The buffers of an expectation, each with room for one entry per state.
-#[derive(Debug, Drop)]
+#[derive(Drop)]
 pub struct Work {
     /// The table that is rounded down, in units of 10^-9.
     pub low: Vec<i128>,

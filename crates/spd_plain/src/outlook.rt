@@ -17,7 +17,7 @@ use sqlite_items::Items;
 use std::alloc::{AllocError, Global};
 
 /// What an action comes to at a state.
-#[derive(Debug, Drop)]
+#[derive(Drop)]
 pub struct Outlook {
     /// The reward, in units of 10^-9.
     pub reward: i128,

@@ -9,7 +9,7 @@ use sqlite_items::Items;
 use std::alloc::{AllocError, Global};
 
 /// Whether a variable's table of probabilities follows next values of later variables.
-#[derive(Clone, Copy, Debug)]
+#[derive(Clone, Copy)]
 pub enum Reach {
     /// It follows the next value of its own variable alone.
     Own,

@@ -1,8 +1,8 @@
 //! Value iteration on plain tables.
 
-ghost use Rattle.std.specs.Prelude.{All, ◌≡◌, ◌-◌, ◌≤◌, ◌^◌, pos, ◌≤ℤ◌, ◌<ℤ◌, IfOk, IfErr, OnOk};
+ghost use Rattle.std.specs.Prelude.{All, ◌≡◌, ◌-◌, ◌≤◌, ◌^◌, pos, ◌≤ℤ◌, ◌<ℤ◌, IfOk, IfErr, OnOk, None};
 ghost use Rattle.spd_scaled.specs.Scaled.{IsWithin};
-ghost use Rattle.spd_model.specs.Chances.{IsValid};
+ghost use Rattle.spd_model.specs.Chances.{IsValid, first_wrong_sum as first_wrong_sum_of, first_wide_reward as first_wide_reward_of};
 ghost use Rattle.spd_model.specs.States.{sizes, state_count};
 ghost use Rattle.spd_model.specs.Turns.{stops_at, error_of as error_of_residual, turn as turn_of, stop_of};
 ghost use Rattle.spd_model.specs.ResultText.{result_of};
@@ -11,7 +11,7 @@ ghost use Rattle.spd_plain.specs.inner.Reach.{reaches_of};
 ghost use Rattle.spd_plain.specs.Space.{state_limit};
 ghost use Rattle.spd_plain.specs.inner.Axes.{IsSpace};
 ghost use Rattle.spd_plain.specs.inner.Sweeps.{CanSweep, IsSweep, AreLimited, stop_record};
-ghost use Rattle.spd_plain.specs.Plain.{plain_of, told_of, Cause, IsShaped, IsPlaced, IsInvalid};
+ghost use Rattle.spd_plain.specs.Plain.{plain_of, told_of, Cause, FaultCause, IsShaped, IsPlaced, IsInvalid};
 
 use crate::expectation::Work;
 use crate::outlook::{Outlook, tabulate};
@@ -75,7 +75,7 @@ pub enum PlainFault {
 }
 
 /// Where a run of value iteration stopped.
-#[derive(Debug, Drop)]
+#[derive(Drop)]
 pub struct Stop {
     pub turn: u32,
     pub why: Why,
@@ -171,6 +171,47 @@ impl From<AllocError> for PlainFault {
     }
 }
 
+/// What a run takes of a valid model that hasn't too many states.
+#[derive(Drop)]
+pub struct Checked {
+    /// Its states and its variables, each in order.
+    pub space: Space,
+    /// The reach of each table of each action in order.
+    pub reaches: Vec<Items<Reach>>,
+}
+
+/// Whether a model is valid and hasn't too many states: the first fault that it has, in the order of `plain_solve`, or what a run takes of it.
+fn check_model(alloc: Global, model: &Model) -> Result<Checked, PlainFault>
+    ensures space { IfOk result (λ checked. IsSpace model.now checked.space) }
+    ensures reaches { IfOk result (λ checked. checked.reaches.items ≡ reaches_of model.now) }
+    ensures sums { OnOk result (first_wrong_sum_of model.now ≡ None) }
+    ensures rewards { OnOk result (first_wide_reward_of model.now ≡ None) }
+    ensures cause { IfErr result (FaultCause model.now) }
+{
+    let count = match count_states(model) {
+        Ok(count) => count,
+        Err(product) => return Err(PlainFault::TooManyStates { product }),
+    };
+    let space = Space::new(alloc, model, count)?;
+    let reaches = reaches(alloc, model)?;
+    if let Some(wrong) = first_wrong_sum(model, &reaches, &space) {
+        return Err(PlainFault::Sum {
+            action: wrong.action,
+            var: wrong.var,
+            state: wrong.state,
+            sum: wrong.sum,
+        });
+    }
+    if let Some(wide) = first_wide_reward(model, &space) {
+        return Err(PlainFault::Range {
+            action: wide.action,
+            state: wide.state,
+            value: wide.value,
+        });
+    }
+    Ok(Checked { space, reaches })
+}
+
 /// The value function, the policy and the residual of a valid model.
 fn solve_valid(
     alloc: Global,
@@ -234,26 +275,6 @@ pub fn plain_solve(
 {
     // Reading a field tells the proof what every model keeps.
     let _vars = &model.vars;
-    let count = match count_states(model) {
-        Ok(count) => count,
-        Err(product) => return Err(PlainFault::TooManyStates { product }),
-    };
-    let space = Space::new(alloc, model, count)?;
-    let reaches = reaches(alloc, model)?;
-    if let Some(wrong) = first_wrong_sum(model, &reaches, &space) {
-        return Err(PlainFault::Sum {
-            action: wrong.action,
-            var: wrong.var,
-            state: wrong.state,
-            sum: wrong.sum,
-        });
-    }
-    if let Some(wide) = first_wide_reward(model, &space) {
-        return Err(PlainFault::Range {
-            action: wide.action,
-            state: wide.state,
-            value: wide.value,
-        });
-    }
-    Ok(solve_valid(alloc, model, &reaches, &space, turns, span)?)
+    let checked = check_model(alloc, model)?;
+    Ok(solve_valid(alloc, model, &checked.reaches, &checked.space, turns, span)?)
 }

@@ -13,7 +13,7 @@ use std::alloc::{AllocError, Global};
 const STATE_LIMIT: usize = 4096;
 
 /// A variable in the order of the states.
-#[derive(Clone, Copy, Debug)]
+#[derive(Clone, Copy)]
 pub struct Axis {
     /// The number of the variable.
     pub var: usize,
@@ -24,7 +24,7 @@ pub struct Axis {
 }
 
 /// The states of a model and its variables, each in order.
-#[derive(Debug, Drop)]
+#[derive(Drop)]
 pub struct Space {
     pub states: Items<State>,
     pub axes: Items<Axis>,

@@ -22,7 +22,7 @@ use sqlite_items::Items;
 use std::alloc::{AllocError, Global};
 
 /// What a sweep over all states finds.
-#[derive(Debug, Drop)]
+#[derive(Drop)]
 pub struct Sweep {
     /// The greatest lower and the greatest upper bound over all actions, one entry per state in order.
     pub ranges: Vec<Bounds>,
@@ -113,7 +113,7 @@ pub(crate) fn policy(
 }
 
 /// Where a residual lies.
-#[derive(Debug, Drop)]
+#[derive(Drop)]
 pub struct ResidualPlace {
     pub state: State,
     pub side: Side,

@@ -20,7 +20,7 @@ use spd_scaled::floor_div;
 use sqlite_items::Items;
 
 /// A sum of probabilities that isn't one.
-#[derive(Debug, Drop)]
+#[derive(Drop)]
 pub struct WrongSum {
     pub action: u32,
     pub var: u32,
@@ -30,7 +30,7 @@ pub struct WrongSum {
 }
 
 /// A reward that passes its limit.
-#[derive(Debug, Drop)]
+#[derive(Drop)]
 pub struct WideReward {
     pub action: u32,
     pub state: State,

@@ -1,5 +1,6 @@
 -- Bounds that agree with others have the same best; and the best bounds and the policy of a process.
-use Rattle.std.proofs.Common.{◌≡◌, ℕ, zero, suc, List, [], ◌∷◌, ◌++◌, map, flat_map, length, take, refl, sym, ◌∙◌, ap, subst, ℤ, pos, Result, Ok, Err, IfOk, IfErr}
+use Rattle.std.proofs.Common.{◌≡◌, ℕ, zero, suc, List, [], ◌∷◌, ◌++◌, map, flat_map, length, take, refl, sym, ◌∙◌, ap, subst, ℤ, pos, Result, Ok, Err, IfOk, IfErr, All}
+use Rattle.std.proofs.lemmas.List.Elements.{All-nil, All-cons}
 use Rattle.std.specs.List.{AllZip}
 use Rattle.spd_cons_core.specs.declared.key.Entry.{Entry}
 use Rattle.spd_model.specs.declared.process.Action.{Action}
@@ -15,10 +16,11 @@ use Rattle.spd_nodes.proofs.CallerLemmas.{positive-slots, test_tree-agree}
 use Rattle.spd_restrict.specs.Chosen.{function_at}
 use Rattle.spd_weigh.specs.declared.way.Way.TheVariants.{Down, Up}
 use Rattle.spd_weigh.specs.Leaves.{number_of}
+use Rattle.spd_build.specs.Functions.{numbers}
 use Rattle.spd_backup.specs.declared.backing.Bounds.{Bounds}
-use Rattle.spd_backup.specs.Expected.{bound}
+use Rattle.spd_backup.specs.Expected.{bound, AreBounds}
 use Rattle.spd_policy.specs.declared.chosen.Best.{Best}
-use Rattle.spd_policy.specs.Best.{numbers_at, greatest_of, policy_by, choosing_functions, best_functions, lows_of, highs_of, lows_in, highs_in, AreBest, MakesBest, MakesBestOf, lower_bounds, upper_bounds, AreBoundsOf, MakesPolicy}
+use Rattle.spd_policy.specs.Best.{numbers_at, greatest_of, policy_by, choosing_functions, best_functions, lows_of, highs_of, lows_in, highs_in, AreBest, MakesBest, MakesBestOf, lower_bounds, upper_bounds, AreBoundsOf, MakesPolicy, IsNum, IsNumeric, AreNumeric}
 
 -- two lists of functions agree one by one
 abbrev pub AllAgree : List ℕ → List Function → List Function → Type 0
@@ -180,3 +182,33 @@ makes-policy m w s t bounds r o b made =
     (record { at = λ x y p q. (agree-greatest s.sizes (highs_in s bounds) (upper_bounds m w) high).at x y p q ∙ high-is m w x y })
     (record { at = λ x y p q. (agree-policy s.sizes (lows_in s bounds) (lower_bounds m w) low).at x y p q ∙ policy-is m w x y })
     (agree-best s.sizes (lows_in s bounds) (lower_bounds m w) (highs_in s bounds) (upper_bounds m w) low high) t r made
+
+-- entries that stand for numbers have numbers
+numeric-stands : (s : Shown) (r : Entry) (f : List ℕ → List ℕ → ℤ) → StandsFor s r (numbers f) → IsNumeric s r
+numeric-stands s r f h = record { known = h.knows; whole = h.whole; numbers = λ x y p q. subst IsNum (sym (h.value.at x y p q)) tt }
+
+module _ (m : Process) (w : List ℕ → ℤ) (s : Shown) where
+  numeric-zip : (bs : List Bounds) (actions : List Action) → AllZip (StandsFor s) (lows_of bs) (map (λ a. bound Down m a w) actions) → AllZip (StandsFor s) (highs_of bs) (map (λ a. bound Up m a w) actions) → All (AreNumeric s) bs
+  numeric-zip [] actions l h = All-nil (AreNumeric s)
+  numeric-zip (b ∷ bs) [] l h = absurd l
+  numeric-zip (b ∷ bs) (a ∷ actions) l h = All-cons (AreNumeric s) b bs (record { lower = numeric-stands s b.lo _ l.0; upper = numeric-stands s b.hi _ h.0 }) (numeric-zip bs actions l.1 h.1)
+
+  -- the bounds of a process are numbers
+  pub bounds-numeric : (bounds : List Bounds) → AreBoundsOf m w s bounds → All (AreNumeric s) bounds
+  bounds-numeric bounds b = numeric-zip bounds m.actions b.low b.high
+
+  low-zip : (bs : List Bounds) (actions : List Action) → AllZip (λ b a. AreBounds m a w s b) bs actions → AllZip (StandsFor s) (lows_of bs) (map (λ a. bound Down m a w) actions)
+  low-zip [] [] h = tt
+  low-zip [] (a ∷ actions) h = absurd h
+  low-zip (b ∷ bs) [] h = absurd h
+  low-zip (b ∷ bs) (a ∷ actions) h = let k = h.0 in (k.low, low-zip bs actions h.1)
+
+  high-zip : (bs : List Bounds) (actions : List Action) → AllZip (λ b a. AreBounds m a w s b) bs actions → AllZip (StandsFor s) (highs_of bs) (map (λ a. bound Up m a w) actions)
+  high-zip [] [] h = tt
+  high-zip [] (a ∷ actions) h = absurd h
+  high-zip (b ∷ bs) [] h = absurd h
+  high-zip (b ∷ bs) (a ∷ actions) h = let k = h.0 in (k.high, high-zip bs actions h.1)
+
+  -- what backing up all actions in file order gives
+  pub bounds-of : (bounds : List Bounds) → AllZip (λ b a. AreBounds m a w s b) bounds m.actions → AreBoundsOf m w s bounds
+  bounds-of bounds h = record { low = low-zip bounds m.actions h; high = high-zip bounds m.actions h }

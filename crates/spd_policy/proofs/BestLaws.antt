@@ -9,12 +9,12 @@ use Rattle.spd_nodes.specs.declared.forest.StoreFault.{StoreFault}
 use Rattle.spd_nodes.specs.declared.forest.StoreFault.TheVariants as F
 use Rattle.spd_nodes.specs.Shown.{Shown, IsSound, Grows, StandsFor, MakesAmong, MakesDiagram, meaning}
 use Rattle.spd_nodes.specs.States.{Function, test_trees}
-use Rattle.spd_nodes.proofs.CallerLemmas.{Among, IsIn, among-after, grows-none, grows-then, has-made, has-none, in-back, in-front, makes-none, stands-grows, within-in}
+use Rattle.spd_nodes.proofs.CallerLemmas.{Among, IsIn, among-after, grows-none, grows-then, has-made, has-none, in-back, in-front, makes-none, stands-grows, within-in, meanings-grow}
 use Rattle.spd_backup.specs.declared.backing.Bounds.{Bounds}
 use Rattle.spd_policy.specs.declared.tables.BestTables.{BestTables}
 use Rattle.spd_policy.specs.Best.{greatest_of, policy_by, choosing_functions, best_functions, IsNumeric, AreNumeric, lows_of, highs_of, MakesBest, MakesBestOf}
 use Rattle.spd_policy.specs.Choosing.{greatest_leaf, place_leaf, HoldBest}
-use Rattle.spd_policy.proofs.ListLaws.{holds-grow, holds-none, meanings-grow}
+use Rattle.spd_policy.proofs.ListLaws.{holds-grow, holds-none}
 
 -- ---- the functions that are made
 

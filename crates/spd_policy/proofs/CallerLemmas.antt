@@ -1,3 +1,3 @@
--- For crates above: what the tables of choosing hold at first and after other calls, and the best of a process's bounds.
-pub use Rattle.spd_policy.proofs.AgreeLaws.{makes-policy}
+-- For crates above: the bounds of a process, their best, and what tables of choosing go on to hold.
+pub use Rattle.spd_policy.proofs.AgreeLaws.{bounds-numeric, bounds-of, makes-policy}
 pub use Rattle.spd_policy.proofs.BestLaws.{best-grow}

@@ -16,6 +16,7 @@ use Rattle.spd_gather.specs.Lists.{trees_of}
 use Rattle.spd_weigh.specs.Leaves.{number_of}
 use Rattle.spd_policy.specs.Best.{IsNum}
 use Rattle.spd_policy.specs.Choosing.{greatest_leaf}
+use Rattle.spd_model.proofs.CallerLemmas.Greatest.{max_itself}
 
 -- the leaf of an entry that is one
 abbrev pub leaf_at : Shown → Entry → Leaf
@@ -72,11 +73,8 @@ greatest-number (a ∷ ls) h k =
 
 -- ---- leaves of trees that are all one
 
-max-itself : (x : ℤ) → int_max x x ≡ x
-max-itself x = omega (arith, ints, int_max_is x x)
-
 higher-itself : (a : Leaf) → num_of int_max a a ≡ a
-higher-itself (Num x) = ap Num (max-itself x)
+higher-itself (Num x) = ap Num (max_itself x)
 higher-itself (Pair x y) = refl
 higher-itself (Act x) = refl
 

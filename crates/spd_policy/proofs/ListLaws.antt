@@ -12,7 +12,7 @@ use Rattle.spd_nodes.specs.Levels.{levels_of, slots, level_at}
 use Rattle.spd_nodes.specs.Trees.{Tree, IsFrom, IsReduced}
 use Rattle.spd_nodes.specs.States.{Function, point}
 use Rattle.spd_nodes.specs.Shown.{Shown, IsSound, IsWhole, Grows, meaning}
-use Rattle.spd_nodes.proofs.CallerLemmas.{IsTreeFor}
+use Rattle.spd_nodes.proofs.CallerLemmas.{IsTreeFor, meaning-grows}
 use Rattle.spd_apply.proofs.CallerLemmas.{not-before-from}
 use Rattle.spd_gather.specs.Down.{Each, Stands, at_leaves, at_each_leaf}
 use Rattle.spd_gather.specs.Lists.{trees_of, AreKnown, HoldsRows, IsListReady}
@@ -23,27 +23,6 @@ use Rattle.spd_policy.specs.Best.{numbers_at, greatest_of, IsNum, IsNumeric}
 use Rattle.spd_policy.specs.Choosing.{greatest_leaf, MayCompare}
 use Rattle.spd_policy.proofs.LeafLaws.{greatest-number, leaf_numbers}
 
--- ---- the number of all levels
-
--- the levels end with the last variable's plain ones
-last-levels : (sizes : List ℕ) (k : ℕ) → k + 1 ≡ length sizes → level_at sizes k false 0 + (get_or sizes k 0 - 1) ≡ levels_of (slots sizes)
-last-levels [] k e = absurd (omega (arith, e))
-last-levels (d ∷ []) zero e = omega arith
-last-levels (d ∷ e ∷ ds) zero h = absurd (omega (arith, h))
-last-levels (d ∷ ds) (suc k) h =
-    let i : level_at ds k false 0 + (get_or ds k 0 - 1) ≡ levels_of (slots ds) = last-levels ds k (omega (arith, h)) in
-    let e : 2 * suc k + 1 ≡ suc (suc (2 * k + 1)) = omega arith in
-    let f : levels_of (take (2 * suc k + 1) (slots (d ∷ ds))) ≡ (d - 1) + ((d - 1) + levels_of (take (2 * k + 1) (slots ds))) = ap (λ n. levels_of (take n (d ∷ d ∷ slots ds))) e in
-    omega (arith, f, i)
-
--- what a layout tells of the levels
-pub levels-from : (sizes own all : List ℕ) (last levels : ℕ) → own ≡ sizes → all ≡ own → 0 < length sizes → last ≡ level_at own (length all - 1) false 0 → levels ≡ last + (get_or own (length all - 1) 0 - 1) → levels ≡ levels_of (slots sizes)
-levels-from sizes own all last levels e a some h i =
-    let count : length all ≡ length sizes = ap length (a ∙ e) in
-    let h' : last ≡ level_at sizes (length all - 1) false 0 = rw e at h in
-    let i' : levels ≡ last + (get_or sizes (length all - 1) 0 - 1) = rw e at i in
-    i' ∙ ap (λ v. v + (get_or sizes (length all - 1) 0 - 1)) h' ∙ last-levels sizes (length all - 1) (omega (arith, count, some))
-
 -- ---- entries with numbers
 
 pub numeric-known : (s : Shown) (ks : List Entry) → All (IsNumeric s) ks → AreKnown s ks
@@ -51,16 +30,6 @@ numeric-known s ks h = All-weaker (IsNumeric s) (λ k. s.knows k ≡ true) (λ k
 
 numeric-whole : (s : Shown) (ks : List Entry) → All (IsNumeric s) ks → Each (IsFrom (slots s.sizes) 0 0) (trees_of s ks)
 numeric-whole s ks h = each-of (IsFrom (slots s.sizes) 0 0) s ks (All-weaker (IsNumeric s) (λ k. IsWhole s k) (λ k n. n.whole) ks h)
-
-pub meaning-grows : (s t : Shown) (k : Entry) → Grows s t → s.knows k ≡ true → meaning t k ≡ meaning s k
-meaning-grows s t k g h = rw (g.sizes, g.trees k h) refl
-
-pub meanings-grow : (s t : Shown) (ks : List Entry) → Grows s t → AreKnown s ks → map (meaning t) ks ≡ map (meaning s) ks
-meanings-grow s t [] g h = refl
-meanings-grow s t (k ∷ ks) g h =
-    let here : meaning t k ≡ meaning s k = meaning-grows s t k g (All-head (λ q. s.knows q ≡ true) k ks h) in
-    let rest : map (meaning t) ks ≡ map (meaning s) ks = meanings-grow s t ks g (All-tail (λ q. s.knows q ≡ true) k ks h) in
-    λ i. here i ∷ rest i
 
 numeric-stays : (s t : Shown) (k : Entry) → Grows s t → IsNumeric s k → IsNumeric t k
 numeric-stays s t k g h = record {

@@ -29,12 +29,9 @@ use Rattle.spd_policy.specs.Choosing.{place_leaf, StartsAlike, MayCompare, IsDec
 use Rattle.spd_policy.proofs.LeafLaws.{leaf_at, leaf_numbers, leaves-are}
 use Rattle.spd_policy.proofs.ListLaws.{all-levels, all-nums, leaves_at, list-ready, list-tree, numbers-at}
 use Rattle.spd_policy.proofs.SplitLaws.{made-of-leaves}
+use Rattle.spd_model.proofs.CallerLemmas.Lists.{map-map}
 
 -- ---- lists that may stand for others
-
-twice : {A B C : Type 0} (f : B → C) (g : A → B) (xs : List A) → map f (map g xs) ≡ map (λ x. f (g x)) xs
-twice f g [] = refl
-twice f g (x ∷ xs) = ap (λ z. f (g x) ∷ z) (twice f g xs)
 
 rank-each : (ds : List ℕ) (ts : List Tree) → Each (λ t. tree_rank ds t ≤ list_rank ds ts) ts
 rank-each ds [] = tt
@@ -57,14 +54,14 @@ module _ (op : List Leaf → Leaf) (s : Shown) (old new : List Entry) (h : IsLik
   like-known e = All-weaker (λ k. Contains old k) (λ k. s.knows k ≡ true) (λ k c. All-contains (λ q. s.knows q ≡ true) old k e c) new h.among
 
   like-trees : (f : Tree → Leaf) → op (map f (trees_of s new)) ≡ op (map f (trees_of s old))
-  like-trees f = ap op (twice f s.tree new) ∙ h.same (λ r. f (s.tree r)) ∙ ap op (sym (twice f s.tree old))
+  like-trees f = ap op (map-map f s.tree new) ∙ h.same (λ r. f (s.tree r)) ∙ ap op (sym (map-map f s.tree old))
 
   like-made : (levels : ℕ) → at_each_leaf levels op (trees_of s new) ≡ at_each_leaf levels op (trees_of s old)
   like-made levels =
       down-same (at_leaves op) (at_leaves op) (λ ts us. (f : Tree → Leaf) → op (map f ts) ≡ op (map f us))
       (λ l ts us e. (
-        λ f. ap op (twice f (yes_at l) ts) ∙ e (λ t. f (yes_at l t)) ∙ ap op (sym (twice f (yes_at l) us)),
-        λ f. ap op (twice f (no_at l) ts) ∙ e (λ t. f (no_at l t)) ∙ ap op (sym (twice f (no_at l) us)),
+        λ f. ap op (map-map f (yes_at l) ts) ∙ e (λ t. f (yes_at l t)) ∙ ap op (sym (map-map f (yes_at l) us)),
+        λ f. ap op (map-map f (no_at l) ts) ∙ e (λ t. f (no_at l t)) ∙ ap op (sym (map-map f (no_at l) us)),
       ))
       (λ ts us e. ap Ends (e last_leaf))
       levels 0 (trees_of s new) (trees_of s old) like-trees

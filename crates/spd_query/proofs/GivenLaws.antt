@@ -1,15 +1,19 @@
 -- The values that the words of a line give the variables.
-use Rattle.std.proofs.Common.{◌≡◌, ℕ, zero, suc, ◌+◌, ◌<◌, List, [], ◌∷◌, ◌++◌, length, map, take, drop, Option, Some, None, Result, Ok, Err, replicate, refl, sym, ap, ◌∙◌, subst, arith, append_assoc, append-nil, length-append, length-take-le}
-use Rattle.std.specs.Prelude.{slice_get, slice_set, option_map, ok_or, is_none, bytes_eq, IfOk, if◌then◌else◌}
+use Rattle.std.proofs.Common.{◌≡◌, ℕ, zero, suc, ◌+◌, ◌<◌, ◌≤◌, false, List, [], ◌∷◌, ◌++◌, length, map, take, drop, Option, Some, None, Result, Ok, Err, replicate, refl, sym, ap, ◌∙◌, subst, arith, append_assoc, append-nil, length-append, length-take-le}
+use Rattle.std.specs.Prelude.{All, slice_get, slice_set, option_map, ok_or, is_none, bytes_eq, codes, nat_lt, IfOk, IfSome, if◌then◌else◌}
+use Rattle.std.proofs.lemmas.Bool.{le-ltb}
 use Rattle.std.proofs.lemmas.List.{length-map, length-replicate, get_or-replicate, get_or_at, set_at, drop_more, drop_all, map_push, take_more_set}
+use Rattle.std.proofs.lemmas.List.Elements.{All-cons}
 use Rattle.std.proofs.lemmas.List.Quantifiers.{position-Some}
 use Rattle.std.proofs.lemmas.Option.{slice_get-get_or}
 use Rattle.spd_model.specs.States.{IsState}
 use Rattle.spd_query.specs.declared.line.Reason.{Reason}
 use Rattle.spd_query.specs.declared.line.Reason.TheVariants.{Missing, Unknown, Twice, Pair}
 use Rattle.spd_model.specs.declared.process.Var.{Var}
-use Rattle.spd_query.specs.inner.Places.{BeginsWithPair}
-use Rattle.spd_query.specs.Lines.{words_of, gathered, sides_of, numbers_of, var_number, value_number, with_pair, with_word, with_words, state_of_words}
+use Rattle.spd_query.specs.declared.line.Query.TheVariants.{State}
+use Rattle.spd_query.specs.inner.Places.{Stands, BeginsWithPair}
+use Rattle.spd_query.specs.Lines.{words_of, gathered, sides_of, numbers_of, var_number, value_number, with_pair, with_word, with_words, state_of_words, asked, query_of}
+use Rattle.spd_query.proofs.WordLaws.{words-stand}
 
 -- a variable has no value
 pub gathered-none : (given : List (Option ℕ)) (i : ℕ) → slice_get given i ≡ Some None → gathered given ≡ None
@@ -106,6 +110,15 @@ order-end vars values words h =
     let all : in_order vars values n ≡ map Some (take n values) = ap (λ (l : List (Option ℕ)). map Some (take n values) ++ l) none ∙ append-nil (map Some (take n values)) in
     ap state_from h ∙ ap state_from (ap Ok all)
     ∙ ap (λ (o : Option (List ℕ)). elim o as (λ _. Result (List ℕ) Reason) [ None ↦ Err Missing | Some state ↦ Ok state ]) (gathered-all (take n values))
+
+-- a line of the word `state` and of pairs of all variables
+module _ (vars : List Var) (line rest : List ℕ) (short : length line ≤ 4096) (words : words_of line ≡ codes "state" ∷ words_of rest) where
+  pub line-in-order : (state : Option (List ℕ)) → IfSome state (λ s. state_of_words vars (words_of rest) ≡ Ok s) → IfSome state (λ _. All Stands (words_of rest)) → IfSome state (λ s. query_of vars line ≡ Ok (State s))
+  line-in-order None read stand = tt
+  line-in-order (Some s) read stand =
+      let may : Stands line = words-stand line (subst (All Stands) (sym words) (All-cons Stands (codes "state") (words_of rest) refl stand)) in
+      let long : nat_lt 4096 (length line) ≡ false = le-ltb 4096 (length line) short in
+      rw (long, may, words) (ap asked read)
 
 -- ---- the values that are given are values of their variables
 
@@ -210,3 +223,7 @@ pub state-fits : (vars : List Var) (words : List (List ℕ)) (r : Result (List �
 state-fits vars words (Err reason) h = tt
 state-fits vars words (Ok state) h =
     given-then vars state (with_words vars (replicate (length vars) None) words) (λ given is. words-fit vars words (replicate (length vars) None) given (fresh-fits vars) is) (sym h)
+
+pub option-fits : (vars : List Var) (words : List (List ℕ)) (state : Option (List ℕ)) → IfSome state (λ s. state_of_words vars words ≡ Ok s) → IfSome state (IsState (sizes_of vars))
+option-fits vars words None h = tt
+option-fits vars words (Some s) h = state-fits vars words (Ok s) (sym h)

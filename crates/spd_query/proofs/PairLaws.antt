@@ -1,17 +1,20 @@
 -- A line that begins with a pair.
-use Rattle.std.proofs.Common.{◌≡◌, ℕ, ◌+◌, ◌<◌, ◌≤◌, true, false, Bool, not, List, [], ◌∷◌, ◌++◌, length, take, drop, Option, Some, None, refl, sym, ap, ◌∙◌, subst, arith, append_assoc, append-nil, length-append}
-use Rattle.std.specs.Prelude.{◌&&◌, ◌||◌, ◌==◌, IsTrue, option_map, slice_get}
+use Rattle.std.proofs.Common.{◌≡◌, ℕ, ◌+◌, ◌<◌, ◌≤◌, ⊎_elim, true, false, Bool, not, List, [], ◌∷◌, ◌++◌, length, take, drop, Option, Some, None, refl, sym, ap, ◌∙◌, subst, arith, append_assoc, append-nil, length-append}
+use Rattle.std.specs.Prelude.{◌&&◌, ◌||◌, ◌==◌, nat_le, IsTrue, option_map, slice_get}
 use Rattle.std.specs.List.{position_or_len, list_all}
 use Rattle.std.specs.Char.{is_ascii_alphabetic, is_ascii_alphanumeric}
+use Rattle.std.specs.Int.{is_in_range}
 use Rattle.std.proofs.Math.ListN.{get_or}
-use Rattle.std.proofs.lemmas.Bool.{true≢false, ne_eqb, and_parts, and_from, or_from, not-true, not_from_false}
+use Rattle.std.proofs.lemmas.Bool.{true≢false, ne_eqb, and_parts, and_from, or_from, or_right, or_cases, not-true, not_from_false, leb-true, le-leb}
+use Rattle.std.proofs.lemmas.Bool.Decides.{Decides-eqb}
 use Rattle.std.proofs.lemmas.List.{take_at, drop_at, drop-drop}
+use Rattle.std.proofs.lemmas.List.Folds.{list_all-append}
 use Rattle.std.proofs.lemmas.Option.{slice_get-get_or}
 use Rattle.spd_model.specs.declared.process.Var.{Var}
 use Rattle.spd_model.specs.Lawful.{HasValues}
 use Rattle.spd_model.specs.Names.{is_name, has_name_form, has_value_form}
-use Rattle.spd_query.specs.Lines.{is_blank, is_equals, words_of, sides_of, numbers_of, var_number, value_number}
-use Rattle.spd_query.specs.inner.Places.{AreVars, IsAtWord, ends_word, BeginsWithValue, BeginsWithPair}
+use Rattle.spd_query.specs.Lines.{is_blank, may_stand, is_equals, words_of, sides_of, numbers_of, var_number, value_number}
+use Rattle.spd_query.specs.inner.Places.{AreVars, IsAtWord, Stands, ends_word, BeginsWithValue, BeginsWithPair}
 use Rattle.spd_query.proofs.WordLaws.{words-first, sides-both}
 use Rattle.spd_query.proofs.NameLaws.{var-here, value-here}
 
@@ -42,9 +45,46 @@ plain-all test a b c d (byte ∷ bytes) h =
     let parts = and_parts (test byte) (list_all test bytes) h in
     and_from (is_plain byte) (list_all is_plain bytes) (plain-byte test a b c d byte parts.0) (plain-all test a b c d bytes parts.1)
 
--- a name's bytes, of which there is one
+-- ---- the bytes of names may stand in a line
+
+either : (byte : ℕ) (x y : Bool) → (x ≡ true → may_stand byte ≡ true) → (y ≡ true → may_stand byte ≡ true) → (x || y) ≡ true → may_stand byte ≡ true
+either byte x y one other h = ⊎_elim one other (or_cases x y h)
+
+same-stands : (byte k : ℕ) → may_stand k ≡ true → byte == k ≡ true → may_stand byte ≡ true
+same-stands byte k stands e = subst (λ (b : ℕ). may_stand b ≡ true) (sym ((Decides-eqb byte k).0 e)) stands
+
+range-stands : (byte low high : ℕ) → 32 ≤ low → high ≤ 126 → is_in_range low high byte ≡ true → may_stand byte ≡ true
+range-stands byte low high l h e =
+    let parts = and_parts (nat_le low byte) (nat_le byte high) e in
+    let above : low ≤ byte = leb-true low byte parts.0 in
+    let below : byte ≤ high = leb-true byte high parts.1 in
+    or_right (byte == 9) _ (or_right (byte == 13) _ (and_from (nat_le 32 byte) (nat_le byte 126) (le-leb 32 byte (omega arith)) (le-leb byte 126 (omega arith))))
+
+upper-stands : (byte : ℕ) → is_in_range 65 90 byte ≡ true → may_stand byte ≡ true
+upper-stands byte = range-stands byte 65 90 (omega arith) (omega arith)
+
+lower-stands : (byte : ℕ) → is_in_range 97 122 byte ≡ true → may_stand byte ≡ true
+lower-stands byte = range-stands byte 97 122 (omega arith) (omega arith)
+
+letter-stands : (byte : ℕ) → is_ascii_alphabetic byte ≡ true → may_stand byte ≡ true
+letter-stands byte = either byte (is_in_range 65 90 byte) (is_in_range 97 122 byte) (upper-stands byte) (lower-stands byte)
+
+alphanumeric-stands : (byte : ℕ) → is_ascii_alphanumeric byte ≡ true → may_stand byte ≡ true
+alphanumeric-stands byte =
+    either byte (is_in_range 48 57 byte || is_in_range 65 90 byte) (is_in_range 97 122 byte)
+    (either byte (is_in_range 48 57 byte) (is_in_range 65 90 byte) (range-stands byte 48 57 (omega arith) (omega arith)) (upper-stands byte)) (lower-stands byte)
+
+stand-all : (test : ℕ → Bool) → ((byte : ℕ) → test byte ≡ true → may_stand byte ≡ true) → (bytes : List ℕ) → list_all test bytes ≡ true → Stands bytes
+stand-all test each [] h = refl
+stand-all test each (byte ∷ bytes) h =
+    let parts = and_parts (test byte) (list_all test bytes) h in
+    and_from (may_stand byte) (list_all may_stand bytes) (each byte parts.0) (stand-all test each bytes parts.1)
+
+-- ---- a name
+
+-- it has a byte, no blank and no `=`, and may stand in a line
 abbrev IsPlain : List ℕ → Type 0
-IsPlain name = (0 < length name) × (list_all is_plain name ≡ true)
+IsPlain name = (0 < length name) × (list_all is_plain name ≡ true) × Stands name
 
 name-plain : (name : List ℕ) → has_name_form name ≡ true → IsPlain name
 name-plain [] h = absurd (cc)
@@ -52,7 +92,12 @@ name-plain (c ∷ cs) h =
     let first = λ (d : ℕ). is_ascii_alphabetic d || d == 95 in
     let others = λ (d : ℕ). is_ascii_alphanumeric d || (d == 95 || d == 45) in
     let parts = and_parts (first c) (list_all others cs) h in
-    (omega arith, and_from (is_plain c) (list_all is_plain cs) (plain-byte first refl refl refl refl c parts.0) (plain-all others refl refl refl refl cs parts.1))
+    let first_stands = either c (is_ascii_alphabetic c) (c == 95) (letter-stands c) (same-stands c 95 refl) parts.0 in
+    let each = λ (d : ℕ). either d (is_ascii_alphanumeric d) (d == 95 || d == 45) (alphanumeric-stands d) (either d (d == 95) (d == 45) (same-stands d 95 refl) (same-stands d 45 refl)) in (
+      omega arith,
+      and_from (is_plain c) (list_all is_plain cs) (plain-byte first refl refl refl refl c parts.0) (plain-all others refl refl refl refl cs parts.1),
+      and_from (may_stand c) (list_all may_stand cs) first_stands (stand-all others each cs parts.1),
+    )
 
 value-plain : (value : List ℕ) → has_value_form value ≡ true → IsPlain value
 value-plain [] h = absurd (cc)
@@ -60,7 +105,13 @@ value-plain (c ∷ cs) h =
     let first = λ (d : ℕ). is_ascii_alphanumeric d || d == 95 in
     let others = λ (d : ℕ). is_ascii_alphanumeric d || (d == 95 || (d == 45 || d == 46)) in
     let parts = and_parts (first c) (list_all others cs) h in
-    (omega arith, and_from (is_plain c) (list_all is_plain cs) (plain-byte first refl refl refl refl c parts.0) (plain-all others refl refl refl refl cs parts.1))
+    let first_stands = either c (is_ascii_alphanumeric c) (c == 95) (alphanumeric-stands c) (same-stands c 95 refl) parts.0 in
+    let each = λ (d : ℕ). either d (is_ascii_alphanumeric d) (d == 95 || (d == 45 || d == 46)) (alphanumeric-stands d)
+    (either d (d == 95) (d == 45 || d == 46) (same-stands d 95 refl) (either d (d == 45) (d == 46) (same-stands d 45 refl) (same-stands d 46 refl))) in (
+      omega arith,
+      and_from (is_plain c) (list_all is_plain cs) (plain-byte first refl refl refl refl c parts.0) (plain-all others refl refl refl refl cs parts.1),
+      and_from (may_stand c) (list_all may_stand cs) first_stands (stand-all others each cs parts.1),
+    )
 
 -- ---- where a word and its name end
 
@@ -117,6 +168,11 @@ module _ (name value : List ℕ) (name_plain : IsPlain name) (value_plain : IsPl
       sides-both word n at name_plain.0 (omega (arith, count, value_plain.0)) (subst (λ (l : List ℕ). length l ≤ position_or_len is_equals l) (sym back) none)
       ∙ (λ i. Some (front i, back i))
 
+  word-stands : Stands word
+  word-stands =
+      list_all-append may_stand name (61 ∷ value)
+      ∙ and_from (list_all may_stand name) (list_all may_stand (61 ∷ value)) name_plain.2 (and_from (may_stand 61) (list_all may_stand value) refl value_plain.2)
+
 -- the numbers that two sides name
 numbers-are : (vars : List Var) (name value : List ℕ) (i v : ℕ) (var : Var) → var_number vars name ≡ Some i → slice_get vars i ≡ Some var → value_number var.values value ≡ Some v
     → numbers_of vars (name, value) ≡ Some (i, v)
@@ -143,5 +199,6 @@ pair-begins vars line text behind i v var are within is begins rest =
       words = ap words_of line_is ∙ word-words var.name value name_plain value_plain behind rest.ends;
       parted = word-sides var.name value name_plain value_plain;
       named = numbers-are vars var.name value i v var (var-here vars i var are.distinct within is) there (value-here var.values v has.distinct rest.within);
+      stands = word-stands var.name value name_plain value_plain;
       shorter = omega (arith, ap length line_is, length-append w behind, length-append var.name (61 ∷ value));
     }

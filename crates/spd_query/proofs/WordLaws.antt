@@ -1,15 +1,20 @@
 -- The words of a line, and the sides of a word.
 use Rattle.std.proofs.Common.{◌≡◌, ℕ, zero, suc, ◌+◌, ◌<◌, ◌≤◌, ⊎_elim, true, false, Bool, not, List, [], ◌∷◌, length, length-take-le, take, drop, Option, Some, None, refl, sym, ap, ◌∙◌, subst, arith}
-use Rattle.std.specs.Prelude.{filter, ◌&&◌, slice_get, if◌then◌else◌}
-use Rattle.std.specs.List.{slice_split, position_or_len, list_any}
+use Rattle.std.specs.Prelude.{All, filter, ◌&&◌, ◌||◌, ◌==◌, slice_get, if◌then◌else◌}
+use Rattle.std.specs.List.{slice_split, position_or_len, list_any, list_all}
 use Rattle.std.proofs.Math.ListN.{get_or}
 use Rattle.std.proofs.Math.Seq.{drop-cons}
 use Rattle.std.proofs.lemmas.List.{take_all, drop_all, length-drop}
 use Rattle.std.proofs.lemmas.List.Splits.{slice_split-cons_yes, slice_split_first, slice_split_none}
 use Rattle.std.proofs.lemmas.List.Sums.{passes_at_first, fails_before_first}
 use Rattle.std.proofs.lemmas.Option.{slice_get_cases}
-use Rattle.spd_query.specs.Lines.{is_blank, is_empty, words_of, is_equals, sides_of}
-use Rattle.spd_query.specs.inner.Places.{IsAtWord}
+use Rattle.std.proofs.lemmas.Bool.{or_cases, and_from}
+use Rattle.std.proofs.lemmas.Bool.Decides.{Decides-eqb}
+use Rattle.std.proofs.lemmas.List.{take-append-drop}
+use Rattle.std.proofs.lemmas.List.Elements.{All-head, All-tail}
+use Rattle.std.proofs.lemmas.List.Folds.{list_all-append}
+use Rattle.spd_query.specs.Lines.{is_blank, may_stand, is_empty, words_of, is_equals, sides_of}
+use Rattle.spd_query.specs.inner.Places.{IsAtWord, Stands}
 
 abbrev is_word : List ℕ → Bool
 is_word word = not (is_empty word)
@@ -54,6 +59,37 @@ words-first line some at =
     ap (filter is_word) none ∙ filter-word line [] (subst (λ (l : List ℕ). is_empty l ≡ false) whole (first-word line some at))
     ∙ ap (λ l. l ∷ []) (sym whole) ∙ ap (λ l. take n line ∷ words_of l) (sym (drop_all n line t.0)))
     (slice_get_cases line n).1
+
+-- ---- the bytes of a line
+
+blank-stands : (byte : ℕ) → is_blank byte ≡ true → may_stand byte ≡ true
+blank-stands byte h =
+    let when : (k : ℕ) → byte == k ≡ true → may_stand k ≡ true → may_stand byte ≡ true = λ k e stands. subst (λ (b : ℕ). may_stand b ≡ true) (sym ((Decides-eqb byte k).0 e)) stands in
+    ⊎_elim (λ e. when 32 e refl) (λ h'. ⊎_elim (λ e. when 9 e refl) (λ e. when 13 e refl) (or_cases (byte == 9) (byte == 13) h')) (or_cases (byte == 32) (byte == 9 || byte == 13) h)
+
+-- where the bytes of all words may stand, those of the line may
+lines-stand : (n : ℕ) (line : List ℕ) → length line ≤ n → All Stands (words_of line) → Stands line
+lines-stand n [] h all = refl
+lines-stand zero (byte ∷ line) h all = absurd (omega arith)
+lines-stand (suc n) (byte ∷ line) h all = by_head (is_blank byte) refl (λ rest shorter stand. lines-stand n rest shorter stand)
+  where
+    whole : List ℕ
+    whole = byte ∷ line
+
+    k : ℕ
+    k = position_or_len is_blank whole
+
+    by_head : (b : Bool) → is_blank byte ≡ b → ((rest : List ℕ) → length rest ≤ n → All Stands (words_of rest) → Stands rest) → Stands whole
+    by_head true e behind = and_from (may_stand byte) (list_all may_stand line) (blank-stands byte e) (behind line (omega arith) (subst (All Stands) (words-blank byte line e) all))
+    by_head false e behind =
+        let parted : All Stands (take k whole ∷ words_of (drop k whole)) = subst (All Stands) (words-first whole (omega arith) e) all in
+        let later = position-later is_blank byte line e in
+        let rest : Stands (drop k whole) = behind (drop k whole) (omega (arith, length-drop k whole, later)) (All-tail Stands (take k whole) (words_of (drop k whole)) parted) in
+        sym (ap (list_all may_stand) (take-append-drop k whole)) ∙ list_all-append may_stand (take k whole) (drop k whole)
+        ∙ and_from (list_all may_stand (take k whole)) (list_all may_stand (drop k whole)) (All-head Stands (take k whole) (words_of (drop k whole)) parted) rest
+
+pub words-stand : (line : List ℕ) → All Stands (words_of line) → Stands line
+words-stand line = lines-stand (length line) line (omega arith)
 
 -- ---- the sides of a word
 

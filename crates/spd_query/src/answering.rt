@@ -70,13 +70,14 @@ fn state_line(model: &Model, iterate: &Iterate, state: &State) -> Line
     requires state { IsState (sizes model.now) state.now }
     ensures { result ≡ answer_to model.now (turn_of iterate.now) (Ok (AtState state.now)) }
 {
+    let (value, policy) = iterate.at(state);
     let mut line = Line::new();
     line.put(b"turn ");
     line.put_number(iterate.turn);
     line.put(b" value ");
-    line.put_units(number(iterate.value.at(state)));
+    line.put_units(number(value));
     line.put(b" action ");
-    line.put(short_name(model, action(iterate.policy.at(state))));
+    line.put(short_name(model, action(policy)));
     line.put(b" error ");
     line.put_units(iterate.error);
     line.put(b"\n");

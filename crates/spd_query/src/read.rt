@@ -1,9 +1,10 @@
 //! Reading a line.
 
-ghost use Rattle.std.specs.Prelude.{◌≡◌, ◌<◌, ◌≤◌, length, map, Ok, Err, IfSome, IfOk, MatchResult};
+ghost use Rattle.std.specs.Prelude.{◌≡◌, ◌<◌, ◌≤◌, All, length, map, Ok, Err, IfSome, IfOk, MatchResult};
 ghost use Rattle.spd_model.specs.declared.process.Var.{Var as Variable};
 ghost use Rattle.spd_model.specs.States.{sizes, IsState};
-ghost use Rattle.spd_query.specs.inner.Places.{AreVars, FitsQuery, IsAtWord};
+ghost use Rattle.spd_query.specs.declared.line.Query.TheVariants.{State as AtState};
+ghost use Rattle.spd_query.specs.inner.Places.{AreVars, FitsQuery, IsAtWord, Stands};
 ghost use Rattle.spd_query.specs.Lines.{words_of, with_pair, with_word, with_words, gathered, state_of_words, query_of};
 
 use crate::line::{Query, Reason};
@@ -101,7 +102,8 @@ fn gather(given: &[Option<u8>]) -> Option<State>
 #[inline(never)]
 fn state_in_order(vars: &[Var], line: &[u8]) -> Option<State>
     requires { AreVars vars.now }
-    ensures { IfSome result (λ state. state_of_words vars.now (words_of line.now) ≡ Ok state) }
+    ensures read { IfSome result (λ state. state_of_words vars.now (words_of line.now) ≡ Ok state) }
+    ensures stands { IfSome result (λ _. All Stands (words_of line.now)) }
 {
     let mut values = [0; 100];
     let mut rest = without_blank(line);
@@ -117,15 +119,26 @@ fn state_in_order(vars: &[Var], line: &[u8]) -> Option<State>
     }
 }
 
+/// The same for a line that begins with `state`. Names hold no byte that may not stand, so no further look at the bytes is needed.
+fn line_in_order(vars: &[Var], line: &[u8]) -> Option<State>
+    requires vars { AreVars vars.now }
+    requires short { length line.now ≤ 4096 }
+    ensures read { IfSome result (λ state. query_of vars.now line.now ≡ Ok (AtState state)) }
+    ensures fits { IfSome result (IsState (map (λ (x : Variable). length x.values) vars.now)) }
+{
+    let (word, rest) = split_word(line)?;
+    if word != b"state".as_slice() {
+        return None;
+    }
+    state_in_order(vars, rest)
+}
+
 /// The state that the words of a line name.
 fn read_state(vars: &[Var], line: &[u8]) -> Result<State, Reason>
     requires { AreVars vars.now }
     ensures read { result ≡ state_of_words vars.now (words_of line.now) }
     ensures fits { IfOk result (IsState (map (λ (x : Variable). length x.values) vars.now)) }
 {
-    if let Some(state) = state_in_order(vars, line) {
-        return Ok(state);
-    }
     let mut given = [None; 100];
     let given = &mut given[..vars.len()];
     match take_words(vars, given, line) {
@@ -141,6 +154,9 @@ pub(crate) fn read_line(line: &[u8], model: &Model) -> Result<Query, Reason>
 {
     if line.len() > MOST {
         return Err(Reason::Long);
+    }
+    if let Some(state) = line_in_order(model.vars.as_slice(), line) {
+        return Ok(Query::State(state));
     }
     if !all_may_stand(line) {
         return Err(Reason::Byte);

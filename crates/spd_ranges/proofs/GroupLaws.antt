@@ -18,7 +18,8 @@ use Rattle.spd_nodes.specs.declared.leaf.Leaf.TheVariants.{Pair}
 use Rattle.spd_ranges.specs.declared.groups.Group.{Group}
 use Rattle.spd_ranges.specs.Merging.{pair_at, range_in}
 use Rattle.spd_ranges.specs.inner.Groups.{begins_by, begun_by, first_of, last_begun, stands_before, told_by}
-use Rattle.spd_ranges.proofs.OrderLaws.{Ascends, Contains-cases, Contains-here, Contains-later, Contains-none, before-apart, same-itself}
+use Rattle.spd_ranges.proofs.OrderLaws.{Ascends, Contains-cases, Contains-here, Contains-later, Contains-none, before-apart}
+use Rattle.spd_model.proofs.CallerLemmas.Ranges.{is_same_itself}
 
 -- the groups that a sweep over ranges makes, after a group is begun
 abbrev pub swept : ℤ → Group → List Range → List Group
@@ -143,7 +144,7 @@ stops span m high (q ∷ ps) p a h =
 any-has : (p : Range) (ps : List Range) → Contains ps p → list_any (is_same p) ps ≡ true
 any-has p [] m = Contains-none p m
 any-has p (q ∷ ps) m = elim (Contains-cases p q ps m) [
-  | inl e ↦ subst (λ (x : Range). (is_same p x || list_any (is_same p) ps) ≡ true) (sym e) (rw (same-itself p) refl)
+  | inl e ↦ subst (λ (x : Range). (is_same p x || list_any (is_same p) ps) ≡ true) (sym e) (rw (is_same_itself p) refl)
   | inr n ↦ or_right (is_same p q) (list_any (is_same p) ps) (any-has p ps n)
 ]
 

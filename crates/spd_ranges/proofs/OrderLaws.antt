@@ -16,9 +16,6 @@ same-range p q h =
     let high : p.high ≡ q.high = (Decides-int_eq p.high q.high).0 parts.1 in
     λ i. record { low = low i; high = high i }
 
-pub same-itself : (p : Range) → is_same p p ≡ true
-same-itself p = rw ((Decides-int_eq p.low p.low).1 refl, (Decides-int_eq p.high p.high).1 refl) refl
-
 flip : (a x b y : ℤ) → (int_lt a b || (int_eq a b && int_lt x y)) ≡ true → (int_lt b a || (int_eq b a && int_lt y x)) ≡ true → ⊥
 flip a x b y h k = grind (arith, ints, nat_tests)
 

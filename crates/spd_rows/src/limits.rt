@@ -1,6 +1,7 @@
 //! Files at their limits, and one step past them.
 use crate::command::solve;
 use crate::refused::assert_ended;
+use std::process::Abort;
 use std::test::Fail;
 
 /// A file whose reward nests `depth` deep.
@@ -116,95 +117,128 @@ fn named_trees<R: AllocGlobal>(rt: &R, dds: usize) -> Result<Vec<u8>, Fail> {
     Ok(file)
 }
 
-#[test]
-fn limits(rt: HostRuntime) -> Result<(), Fail> {
-    let cases = [
-        ("nesting 300", nested(&rt, 300)?, 0, ""),
-        (
-            "nesting 301",
-            nested(&rt, 301)?,
-            5,
-            "refused at byte 1869: too many nesting",
-        ),
-        (
-            "nesting 100000",
-            nested(&rt, 100_000)?,
-            5,
-            "refused at byte 1869: too many nesting",
-        ),
-        ("64 values", sized(&rt, 64, 1)?, 0, ""),
-        (
-            "65 values",
-            sized(&rt, 65, 1)?,
-            5,
-            "refused at byte 260: too many values",
-        ),
-        ("64 actions", sized(&rt, 2, 64)?, 0, ""),
-        (
-            "65 actions",
-            sized(&rt, 2, 65)?,
-            5,
-            "refused at byte 2963: too many actions",
-        ),
-        ("names of 64 bytes", named(&rt, 64, 64, 64)?, 0, ""),
-        (
-            "a variable of 65 bytes",
-            named(&rt, 65, 64, 64)?,
-            5,
-            "refused at byte 12: too many name bytes",
-        ),
-        (
-            "a value of 65 bytes",
-            named(&rt, 64, 65, 64)?,
-            5,
-            "refused at byte 77: too many name bytes",
-        ),
-        (
-            "an action of 65 bytes",
-            named(&rt, 64, 64, 65)?,
-            5,
-            "refused at byte 153: too many name bytes",
-        ),
-        ("100 variables", wide(&rt, 100)?, 0, ""),
-        (
-            "101 variables",
-            wide(&rt, 101)?,
-            5,
-            "refused at byte 802: too many variables",
-        ),
-        ("4,096 diagrams", named_trees(&rt, 4096)?, 0, ""),
-        (
-            "4,097 diagrams",
-            named_trees(&rt, 4097)?,
-            5,
-            "refused at byte 84929: too many dds",
-        ),
-    ];
-    for (what, file, number, message) in &cases {
-        assert_ended(&rt, what, &solve(&rt, file)?, *number, message);
+/// A file with so many of something.
+#[derive(Clone, Copy)]
+enum Much {
+    Nesting(usize),
+    Values(usize),
+    Actions(usize),
+    /// Bytes of the names of a variable, of its first value and of an action.
+    NameBytes(usize, usize, usize),
+    Variables(usize),
+    Diagrams(usize),
+    /// Variables of two values.
+    Choices(usize),
+}
+
+/// What a file is, so many of what it has, and the status and the message that it comes to.
+type Row = (&'static str, Much, u8, &'static str);
+
+const FILES: &[Row] = &[
+    ("nesting 300", Much::Nesting(300), 0, ""),
+    (
+        "nesting 301",
+        Much::Nesting(301),
+        5,
+        "refused at byte 1869: too many nesting",
+    ),
+    (
+        "nesting 100000",
+        Much::Nesting(100_000),
+        5,
+        "refused at byte 1869: too many nesting",
+    ),
+    ("64 values", Much::Values(64), 0, ""),
+    (
+        "65 values",
+        Much::Values(65),
+        5,
+        "refused at byte 260: too many values",
+    ),
+    ("64 actions", Much::Actions(64), 0, ""),
+    (
+        "65 actions",
+        Much::Actions(65),
+        5,
+        "refused at byte 2963: too many actions",
+    ),
+    ("names of 64 bytes", Much::NameBytes(64, 64, 64), 0, ""),
+    (
+        "a variable of 65 bytes",
+        Much::NameBytes(65, 64, 64),
+        5,
+        "refused at byte 12: too many name bytes",
+    ),
+    (
+        "a value of 65 bytes",
+        Much::NameBytes(64, 65, 64),
+        5,
+        "refused at byte 77: too many name bytes",
+    ),
+    (
+        "an action of 65 bytes",
+        Much::NameBytes(64, 64, 65),
+        5,
+        "refused at byte 153: too many name bytes",
+    ),
+    ("100 variables", Much::Variables(100), 0, ""),
+    (
+        "101 variables",
+        Much::Variables(101),
+        5,
+        "refused at byte 802: too many variables",
+    ),
+    ("4,096 diagrams", Much::Diagrams(4096), 0, ""),
+    (
+        "4,097 diagrams",
+        Much::Diagrams(4097),
+        5,
+        "refused at byte 84929: too many dds",
+    ),
+];
+
+const STATES: &[Row] = &[
+    ("4,096 states", Much::Choices(12), 0, ""),
+    (
+        "8,192 states",
+        Much::Choices(13),
+        13,
+        "too many states: 8192 or more",
+    ),
+    (
+        "2^100 states",
+        Much::Choices(100),
+        13,
+        "too many states: 8192 or more",
+    ),
+];
+
+fn file_of<R: AllocGlobal>(rt: &R, much: Much) -> Result<Vec<u8>, Fail> {
+    match much {
+        Much::Nesting(depth) => nested(rt, depth),
+        Much::Values(values) => sized(rt, values, 1),
+        Much::Actions(actions) => sized(rt, 2, actions),
+        Much::NameBytes(var, value, action) => named(rt, var, value, action),
+        Much::Variables(vars) => wide(rt, vars),
+        Much::Diagrams(dds) => named_trees(rt, dds),
+        Much::Choices(vars) => doubled(rt, vars),
+    }
+}
+
+fn assert_rows<R: AllocGlobal + Abort>(rt: &R, rows: &[Row]) -> Result<(), Fail> {
+    for (what, much, number, message) in rows {
+        let file = file_of(rt, *much)?;
+        assert_ended(rt, what, &solve(rt, &file)?, *number, message);
     }
     Ok(())
 }
 
 #[test]
+fn files(rt: HostRuntime) -> Result<(), Fail> {
+    assert_rows(&rt, FILES)
+}
+
+#[test]
 fn states(rt: HostRuntime) -> Result<(), Fail> {
-    let cases = [
-        ("4,096 states", doubled(&rt, 12)?, 0, ""),
-        (
-            "8,192 states",
-            doubled(&rt, 13)?,
-            13,
-            "too many states: 8192 or more",
-        ),
-        (
-            "2^100 states",
-            doubled(&rt, 100)?,
-            13,
-            "too many states: 8192 or more",
-        ),
-    ];
-    for (what, file, number, message) in &cases {
-        assert_ended(&rt, what, &solve(&rt, file)?, *number, message);
-    }
-    Ok(())
+    assert_rows(&rt, STATES)
 }

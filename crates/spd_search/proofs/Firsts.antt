@@ -13,10 +13,6 @@ pub option_or-same : {X : Type 0} (o : Option X) → option_or o o ≡ o
 option_or-same (Some x) = refl
 option_or-same None = refl
 
-pub option_or-none : {X : Type 0} (o : Option X) → option_or o None ≡ o
-option_or-none (Some x) = refl
-option_or-none None = refl
-
 option_or-assoc : {X : Type 0} (a b c : Option X) → option_or a (option_or b c) ≡ option_or (option_or a b) c
 option_or-assoc (Some x) b c = refl
 option_or-assoc None b c = refl

@@ -16,6 +16,7 @@ use Rattle.spd_nodes.specs.States.{Function}
 use Rattle.spd_search.specs.declared.found.Found.{Found}
 use Rattle.spd_search.specs.Found.{state_pairs, first_pair, found_at, first_found}
 use Rattle.spd_search.proofs.Firsts.{option_or-same, first_below, find-rows}
+use Rattle.spd_search.proofs.WalkLaws.{map-map}
 
 -- ---- the first variables are no matter
 
@@ -47,10 +48,6 @@ find-dropped q (suc n) (d ∷ ds) h o =
 map-or : {X Y : Type 0} (k : X → Y) (a b : Option X) → option_map k (option_or a b) ≡ option_or (option_map k a) (option_map k b)
 map-or k (Some x) b = refl
 map-or k None b = refl
-
-map-twice : {X Y Z : Type 0} (k : Y → Z) (h : X → Y) (o : Option X) → option_map k (option_map h o) ≡ option_map (λ x. k (h x)) o
-map-twice k h (Some x) = refl
-map-twice k h None = refl
 
 -- ---- rows of the present states, each with an entry for the values of the variables after the first n
 
@@ -88,7 +85,7 @@ module _ {Y : Type 0} (sizes : List ℕ) (n : ℕ) (wants : Leaf → Bool) (f : 
   pub found-by-rest : find q (flat_map (λ s. map (λ rest. entry s rest) (states (drop n sizes))) (states sizes)) ≡ option_map made (first_found sizes wants f)
   found-by-rest =
       in-rows (states sizes) (All-states (λ s. IsState sizes s) sizes (λ s j. j))
-      ∙ sym (map-twice made (found_at f) (find (λ p. wants (f p.0 p.1)) (flat_map (λ s. map (λ t. (s, t)) (states sizes)) (states sizes))))
+      ∙ sym (map-map made (found_at f) (find (λ p. wants (f p.0 p.1)) (flat_map (λ s. map (λ t. (s, t)) (states sizes)) (states sizes))))
 
 -- The same of a list by present states alone, for a function of the present state.
 pub found-by-state : {Y : Type 0} (sizes : List ℕ) (wants : Leaf → Bool) (f : Function) (q : Y → Bool) (entry : List ℕ → Y) (made : Found → Y)
@@ -117,10 +114,6 @@ found-state sizes wants f q positive test =
 
 -- ---- what an answer says of the function
 
-unpaired : {X Y : Type 0} (k : X → Y) (o : Option X) → option_map k o ≡ None → o ≡ None
-unpaired k None e = refl
-unpaired k (Some x) e = absurd (cc e)
-
 -- where nothing was found, no leaf is wanted
 pub found-none : (sizes : List ℕ) (wants : Leaf → Bool) (f : Function) → first_found sizes wants f ≡ None → (s t : List ℕ) → IsState sizes s → IsState sizes t → wants (f s t) ≡ false
 found-none sizes wants f none s t i j =
@@ -131,6 +124,10 @@ found-none sizes wants f none s t i j =
     let row : All (λ (p : List ℕ × List ℕ). wants (f p.0 p.1) ≡ false) (map (λ (t : List ℕ). (s, t)) (states sizes)) =
     All-states_back (λ (s : List ℕ). All (λ (p : List ℕ × List ℕ). wants (f p.0 p.1) ≡ false) (map (λ (t : List ℕ). (s, t)) (states sizes))) sizes rows s i in
     All-states_back (λ (t : List ℕ). wants (f s t) ≡ false) sizes (All-map_back (λ (p : List ℕ × List ℕ). wants (f p.0 p.1) ≡ false) (λ (t : List ℕ). (s, t)) (states sizes) row) t j
+  where
+    unpaired : {X Y : Type 0} (k : X → Y) (o : Option X) → option_map k o ≡ None → o ≡ None
+    unpaired k None e = refl
+    unpaired k (Some x) e = absurd (cc e)
 
 -- What was found is a present state with a leaf that is wanted, which is the function's at some next state.
 pub record IsFound (sizes : List ℕ) (wants : Leaf → Bool) (f : Function) (found : Found) : Type 0 where

@@ -7,6 +7,7 @@ use Rattle.spd_nodes.specs.declared.leaf.Leaf.{Leaf}
 use Rattle.spd_search.specs.inner.Settling.{AreFirst}
 use Rattle.spd_search.proofs.Firsts.{first_below, any_below, any_below-swap, is_some-below, first_below-at, first_state}
 use Rattle.spd_search.proofs.SeekLaws.{seek}
+use Rattle.spd_model.proofs.CallerLemmas.Finds.{is_some-option_map}
 
 -- A rule on the first values of a state holds where it holds with one value more.
 abbrev pub Splits : List ℕ → (List ℕ → Bool) → Type 0
@@ -38,31 +39,27 @@ is_some-cond : {X : Type 0} (b : Bool) (x : X) → is_some (cond b (Some x) None
 is_some-cond true x = refl
 is_some-cond false x = refl
 
-is_some-map : {X Y : Type 0} (f : X → Y) (o : Option X) → is_some (option_map f o) ≡ is_some o
-is_some-map f (Some x) = refl
-is_some-map f None = refl
-
 -- some state passes where the empty front does
 pub some-state : (ds : List ℕ) (k : List ℕ → Bool) → Splits ds k → is_some (first_state ds k) ≡ k []
 some-state [] k s = is_some-cond (k []) []
 some-state (d ∷ ds) k s =
     is_some-below d (λ v. option_map (λ r. v ∷ r) (first_state ds (λ r. k (v ∷ r))))
-    ∙ ap (any_below d) (λ i v. (is_some-map (λ r. v ∷ r) (first_state ds (λ r. k (v ∷ r))) ∙ some-state ds (λ r. k (v ∷ r)) (s.1 v)) i)
+    ∙ ap (any_below d) (λ i v. (is_some-option_map (λ r. v ∷ r) (first_state ds (λ r. k (v ∷ r))) ∙ some-state ds (λ r. k (v ∷ r)) (s.1 v)) i)
     ∙ sym s.0
-
-not-some : {X : Type 0} (o : Option X) → is_some o ≡ false → o ≡ None
-not-some (Some x) e = absurd (cc e)
-not-some None e = refl
 
 pub no-state : (ds : List ℕ) (k : List ℕ → Bool) → Splits ds k → k [] ≡ false → first_state ds k ≡ None
 no-state ds k s e = not-some (first_state ds k) (some-state ds k s ∙ e)
+  where
+    not-some : {X : Type 0} (o : Option X) → is_some o ≡ false → o ≡ None
+    not-some (Some x) e = absurd (cc e)
+    not-some None e = refl
 
 -- the first state has the first value at which the rule holds
 next-value : (d : ℕ) (ds : List ℕ) (k : List ℕ → Bool) (v : ℕ) → Splits (d ∷ ds) k → v < d → k (v ∷ []) ≡ true → ((j : ℕ) → j < v → k (j ∷ []) ≡ false)
     → first_state (d ∷ ds) k ≡ option_map (λ r. v ∷ r) (first_state ds (λ r. k (v ∷ r)))
 next-value d ds k v s i here before =
     first_below-at d v (λ j. option_map (λ r. j ∷ r) (first_state ds (λ r. k (j ∷ r)))) i
-    (is_some-map (λ r. v ∷ r) (first_state ds (λ r. k (v ∷ r))) ∙ some-state ds (λ r. k (v ∷ r)) (s.1 v) ∙ here)
+    (is_some-option_map (λ r. v ∷ r) (first_state ds (λ r. k (v ∷ r))) ∙ some-state ds (λ r. k (v ∷ r)) (s.1 v) ∙ here)
     (λ j q. ap (option_map (λ r. j ∷ r)) (no-state ds (λ r. k (j ∷ r)) (s.1 j) (before j q)))
 
 -- The first state begins with these values, and goes on with the first one of the variables that are left.
@@ -74,7 +71,7 @@ map-same : {X : Type 0} (o : Option X) → o ≡ option_map (λ x. x) o
 map-same (Some x) = refl
 map-same None = refl
 
-map-map : {X Y Z : Type 0} (f : Y → Z) (g : X → Y) (o : Option X) → option_map f (option_map g o) ≡ option_map (λ x. f (g x)) o
+pub map-map : {X Y Z : Type 0} (f : Y → Z) (g : X → Y) (o : Option X) → option_map f (option_map g o) ≡ option_map (λ x. f (g x)) o
 map-map f g (Some x) = refl
 map-map f g None = refl
 

@@ -1,6 +1,6 @@
 -- The first entry that passes a test, and the first place at which a rule holds.
 use Rattle.std.proofs.Common.{◌≡◌, ℕ, zero, suc, All, arith, ◌+◌, ◌<◌, ◌≤◌, Bool, true, false, cond, List, [], ◌∷◌, ◌++◌, map, flat_map, take, take_all, drop, get_or, length, find, Option, Some, None, unwrap_or, inl, inr, refl, ap, sym, ◌∙◌, subst}
-use Rattle.std.specs.Option.{option_or, is_some}
+use Rattle.std.specs.Option.{option_map, option_or, is_some}
 use Rattle.std.proofs.lemmas.Bool.{false≢true, cases_lt}
 use Rattle.std.proofs.Math.Seq.{split_at}
 use Rattle.std.proofs.lemmas.List.{take_more, append-nil}
@@ -152,3 +152,8 @@ first_here rule (suc n) k holds = ap (λ b. elim b [ true ↦ k | false ↦ firs
 
 pub first_later : (rule : ℕ → Bool) (n k : ℕ) → rule k ≡ false → first_from rule k (suc n) ≡ first_from rule (suc k) n
 first_later rule n k fails = ap (λ b. elim b [ true ↦ k | false ↦ first_from rule (suc k) n ]) fails
+
+-- an image is there where something is there
+pub is_some-option_map : {X Y : Type 0} (f : X → Y) (o : Option X) → is_some (option_map f o) ≡ is_some o
+is_some-option_map f None = refl
+is_some-option_map f (Some x) = refl

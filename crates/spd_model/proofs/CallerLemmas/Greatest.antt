@@ -177,3 +177,6 @@ module _ {X : Type 0} (f : X → ℤ) (xs : List X) (i : ℕ) (d : X) (best y : 
       (subst (λ z. IsFirstBest (map f (take i xs) ++ y ∷ []) z at) (sym is_new)
       (subst (λ n. IsFirstBest (map f (take i xs) ++ y ∷ []) y n) (so_far ∙ sym is_at)
       (first_best_moves (map f (take i xs)) best place y was lt)))
+
+pub max_itself : (x : ℤ) → int_max x x ≡ x
+max_itself x = omega (arith, ints, int_max_is x x)

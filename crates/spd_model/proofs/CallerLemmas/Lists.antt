@@ -78,3 +78,8 @@ All-enumerate_back P xs h x there =
 pub le_fold_max : (a : ℕ) (xs : List ℕ) → a ≤ fold max a xs
 le_fold_max a [] = omega arith
 le_fold_max a (x ∷ xs) = let more = le_fold_max (max a x) xs in omega arith
+
+-- an image of an image
+pub map-map : {X Y Z : Type 0} (f : Y → Z) (g : X → Y) (xs : List X) → map f (map g xs) ≡ map (λ x. f (g x)) xs
+map-map f g [] = refl
+map-map f g (x ∷ xs) = ap (λ ys. f (g x) ∷ ys) (map-map f g xs)

@@ -6,7 +6,8 @@ use Rattle.spd_model.specs.Names.{is_name}
 use Rattle.spd_model.specs.States.{IsState}
 use Rattle.spd_query.specs.declared.line.Query.{Query}
 use Rattle.spd_query.specs.declared.line.Query.TheVariants.{State, Status}
-use Rattle.spd_query.specs.Lines.{is_blank, words_of, sides_of, numbers_of}
+use Rattle.std.specs.List.{list_all}
+use Rattle.spd_query.specs.Lines.{is_blank, may_stand, words_of, sides_of, numbers_of}
 
 -- a line is at its end, or at the first byte of a word
 abbrev pub IsAtWord : List ℕ → Type 0
@@ -17,6 +18,10 @@ IsAtWord (byte ∷ bytes) = is_blank byte ≡ false
 abbrev pub ends_word : List ℕ → Bool
 ends_word [] = true
 ends_word (byte ∷ bytes) = is_blank byte
+
+-- each byte of a text may stand in a line
+abbrev pub Stands : List ℕ → Type 0
+Stands bytes = list_all may_stand bytes ≡ true
 
 -- what the variables of every model keep
 pub record AreVars (vars : List Var) : Type 0 where
@@ -38,6 +43,7 @@ pub record BeginsWithPair (vars : List Var) (line : List ℕ) (pair : ℕ × ℕ
   pub words : words_of line ≡ word ∷ words_of behind
   pub parted : sides_of word ≡ Some sides
   pub named : numbers_of vars sides ≡ Some pair
+  pub stands : Stands word
   pub shorter : length behind < length line
 
 -- what is asked for is the status, or a state of variables with these numbers of values

@@ -1,4 +1,4 @@
-use Rattle.std.proofs.Common.{◌≡◌, ◌∙◌, ap, get_or}
+use Rattle.std.proofs.Common.{◌∙◌, ap, get_or}
 use Rattle.spd_cons_core.specs.declared.key.Entry.{Entry}
 use Rattle.spd_nodes.specs.Shown.{Shown, meaning}
 use Rattle.spd_frozen.specs.Frozen.{frozen_of}

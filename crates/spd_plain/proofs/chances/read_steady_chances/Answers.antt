@@ -1,4 +1,4 @@
-use Rattle.std.proofs.Common.{rules, ◌≡◌, ◌∙◌, ◌*◌, ◌+◌, ◌<◌, ◌∷◌, [], ℕ, ℤ, pos, drop, ap, sym, subst, get_or, slice_index, FitsSigned, arith}
+use Rattle.std.proofs.Common.{rules, ◌≡◌, ◌∙◌, ◌*◌, ◌+◌, ◌<◌, ◌∷◌, [], ℕ, ℤ, pos, drop, ap, sym, subst, get_or, slice_index, FitsSigned, arith, ◌≤◌}
 use Rattle.std.proofs.lemmas.Int.{to_z-of_z}
 use Rattle.std.proofs.lemmas.List.{get_or-map}
 use mir.Syntax.{w128}
@@ -10,6 +10,8 @@ use Rattle.spd_model.proofs.CallerLemmas.Lists.{length-numbers_below, get_or-num
 use Rattle.spd_plain.specs.inner.Chances.{chance_of, values_of}
 use Rattle.spd_plain.proofs.Tables.{axis_more, after_some, size_is}
 use Rattle.spd_plain.proofs.Weights.{entry_below, length-spread, entry-spread}
+use Rattle.std.proofs.Math.Nat.{mul-le-mul_right}
+use Rattle.std.proofs.lemmas.Result.{IfOk-from_err}
 use Rattle.spd_plain.proofs.chances.read_steady_chances.Goals as goal
 
 pub chance_at-chance-requires-clause-place : goal.chance_at-chance-requires-clause-place
@@ -41,3 +43,20 @@ loop-value-preserved c =
       len = length-spread axis.after v c.loop-value.chances.len x now values c.loop-value.invariant.len c.loop-value.chances.ok.0 there c.loop-value.invariant.each;
       each = entry-spread axis.after v c.loop-value.chances.len x now values c.loop-value.invariant.len c.loop-value.chances.ok.0 there c.loop-value.invariant.each;
     }))
+
+pub overflow_mul-value-in-loop-value : goal.overflow_mul-value-in-loop-value
+overflow_mul-value-in-loop-value c =
+    let axis = c.args.axis.now in
+    let below : (c.loop-value.value + 1) * axis.after ≤ axis.size * axis.after = mul-le-mul_right axis.after (omega arith) in
+    omega (arith, below, c.requires.axis.few)
+
+pub returns-in_err-resize-clause-len : goal.returns-in_err-resize-clause-len
+returns-in_err-resize-clause-len c = IfOk-from_err c.from_residual.result _ c.from_residual.ensures.0
+
+pub returns-in_err-resize-clause-each : goal.returns-in_err-resize-clause-each
+returns-in_err-resize-clause-each c = IfOk-from_err c.from_residual.result _ c.from_residual.ensures.0
+
+pub returns-clause-len : goal.returns-clause-len
+returns-clause-len c =
+    let all : c.loop-value.value ≡ c.args.axis.now.size = omega arith in
+    c.loop-value.invariant.len ∙ ap (λ (n : ℕ). n * c.args.axis.now.after) all

@@ -15,6 +15,7 @@ use Rattle.spd_plain.specs.inner.Chances.{TellsChances}
 use Rattle.spd_plain.specs.inner.Expectations.{weighted}
 use Rattle.spd_plain.proofs.Known.{length-below, var_is, is_axis, reach_read}
 use Rattle.spd_plain.proofs.Steps.{Expects, IsReady, is_ready, expects_start, expects_more, expects_one, expects_all}
+use Rattle.spd_plain.specs.inner.Reach.{reach_at}
 use Rattle.spd_plain.proofs.expectation.expect.Goals as goal
 
 abbrev nothing : Axis
@@ -142,3 +143,13 @@ returns-clause-low c = expects_all c.args.model.now c.args.action.now c.args.s.n
 
 pub returns-clause-high : goal.returns-clause-high
 returns-clause-high c = expects_all c.args.model.now c.args.action.now c.args.s.now _ ceil_div c.loop-var.var c.loop-var.work.high.items c.loop-var.invariant.high (all_out c)
+
+pub bounds-reaches-var : goal.bounds-reaches-var
+bounds-reaches-var c =
+    let m = c.args.model.now in
+    omega (
+      arith,
+      c.loop-var-test.true,
+      length-below (axis_of m) (length m.vars) c.as_slice-axes.result.now (c.as_slice-axes.ensures ∙ c.requires.space.axes),
+      length-below (reach_at m c.args.action.now) (length m.vars) c.as_slice-reaches.result.now (c.as_slice-reaches.ensures ∙ ap (λ (x : Outlook). x.reaches) c.requires.outlook),
+    )

@@ -1,4 +1,4 @@
-use Rattle.std.proofs.Common.{rules, ◌≡◌, ◌∙◌, ◌<◌, ◌∷◌, length, get_or, ap, sym, subst, FitsSigned, pos, [], ◌-ℤ◌, arith, All}
+use Rattle.std.proofs.Common.{rules, ◌≡◌, ◌∙◌, ◌<◌, ◌∷◌, length, get_or, ap, sym, subst, FitsSigned, pos, [], ◌-ℤ◌, arith, All, ℕ, List, map, fold}
 use Rattle.std.specs.Int.{int_max}
 use Rattle.std.proofs.lemmas.Int.{to_z-of_z}
 use Rattle.std.proofs.lemmas.List.Elements.{All-append, All-nil, All-cons}
@@ -12,6 +12,7 @@ use Rattle.spd_plain.specs.inner.Sweeps.{AreLimited}
 use Rattle.spd_plain.proofs.Rows.{row_read, length-rows, table_more}
 use Rattle.spd_plain.proofs.SweepLaws.{range_at}
 use Rattle.spd_plain.proofs.Tables.{state_is, state_read}
+use Rattle.std.proofs.lemmas.List.{take_all}
 use Rattle.spd_plain.proofs.sweep.sweep_states.Goals as goal
 
 pub bounds-rows-place : goal.bounds-rows-place
@@ -69,4 +70,16 @@ loop-place-preserved c =
       ranges = table_more range_of (range_at m w) (states (sizes m)) k [] c.loop-place.ranges.items c.push.new.self.items _ inside c.loop-place.invariant.ranges c.in_ok-push.ensures.items range;
       residual = simp to_z-of_z (greater ∙ greatest_more (gap_at m w) (states (sizes m)) k [] (pos 0) _ c.gap.result inside c.loop-place.invariant.residual (here ∙ gap));
       limited = subst (All AreLimited) (sym c.in_ok-push.ensures.items) (All-append AreLimited c.loop-place.ranges.items (b ∷ []) c.loop-place.invariant.limited (All-cons AreLimited b [] c.in_ok-bounds.ensures.limited (All-nil AreLimited)));
+    }
+
+pub returns-clause-sweep : goal.returns-clause-sweep
+returns-clause-sweep c =
+    let m = c.args.model.now in
+    let w = at (sizes m) c.args.values.now in
+    let k = c.loop-place.place in
+    let are = c.as_slice-states.ensures ∙ c.requires.values.space_is.states in
+    let all = take_all k (states (sizes m)) (omega (arith, c.loop-place-test.false, ap length are)) in
+    record {
+      ranges = c.loop-place.invariant.ranges ∙ ap (map (range_at m w)) all;
+      residual = c.loop-place.invariant.residual ∙ ap (λ (l : List (List ℕ)). fold int_max (pos 0) (map (gap_at m w) l)) all;
     }

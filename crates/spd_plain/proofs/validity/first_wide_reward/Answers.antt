@@ -6,9 +6,9 @@ use Rattle.spd_model.specs.declared.process.Action.{Action}
 use Rattle.spd_model.specs.Process.{Process}
 use Rattle.spd_model.specs.Chances.{Reward, reward_limit}
 use Rattle.spd_plain.specs.inner.Faults.{reward_record}
-use Rattle.spd_model.proofs.CallerLemmas.Finds.{find_flat_some, find_flat_more, find_flat_none}
+use Rattle.spd_model.proofs.CallerLemmas.Finds.{find_flat_some, find_flat_more, find_flat_none, is_some-option_map}
 use Rattle.spd_model.proofs.CallerLemmas.Validity.{rewards_after}
-use Rattle.spd_plain.proofs.Numbered.{numbered, is_some-option_map}
+use Rattle.spd_plain.proofs.Numbered.{numbered}
 use Rattle.spd_plain.proofs.validity.first_wide_reward.Goals as goal
 
 pub returns-then-is_some : goal.returns-then-is_some

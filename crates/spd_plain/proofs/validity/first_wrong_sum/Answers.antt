@@ -7,9 +7,10 @@ use Rattle.spd_model.specs.declared.process.Action.{Action}
 use Rattle.spd_model.specs.Process.{Process}
 use Rattle.spd_model.specs.Chances.{Sum, one}
 use Rattle.spd_plain.specs.inner.Faults.{sum_record}
-use Rattle.spd_model.proofs.CallerLemmas.Finds.{find_flat_some, find_flat_more, find_flat_none}
+use Rattle.spd_model.proofs.CallerLemmas.Finds.{find_flat_some, find_flat_more, find_flat_none, is_some-option_map}
 use Rattle.spd_model.proofs.CallerLemmas.Validity.{sums_after}
-use Rattle.spd_plain.proofs.Numbered.{numbered, is_some-option_map}
+use Rattle.spd_plain.proofs.Numbered.{numbered}
+use Rattle.spd_plain.proofs.Rows.{length-reaches}
 use Rattle.spd_plain.proofs.validity.first_wrong_sum.Goals as goal
 
 pub returns-then-is_some : goal.returns-then-is_some
@@ -45,3 +46,9 @@ returns c =
     let done : length m.actions ≤ c.loop-number.number = subst (λ (l : List Action). length l ≤ c.loop-number.number) actions (omega arith) in
     sym (find_flat_none (λ (x : Sum). not (int_eq x.sum one)) (sums_after m) (enumerate_from 0 m.actions) c.loop-number.number
     (omega (arith, length-enumerate_from 0 m.actions)) c.loop-number.invariant)
+
+pub bounds-reaches-number : goal.bounds-reaches-number
+bounds-reaches-number c =
+    let m = c.args.model.now in
+    let actions : c.as_slice-action-items.result.now ≡ m.actions = c.as_slice-action-items.ensures ∙ ap (λ (m : Process). m.actions) c.model.view_is in
+    omega (arith, c.loop-number-test.true, length-reaches m c.args.reaches.now c.as_slice-action-items.result.now c.requires.reaches actions)

@@ -3,10 +3,9 @@ use Rattle.std.specs.Option.{option_map}
 use Rattle.std.specs.Ordering.{int_eq}
 use Rattle.spd_model.specs.States.{sizes, states}
 use Rattle.spd_model.specs.Chances.{Sum, one}
-use Rattle.spd_model.proofs.CallerLemmas.Finds.{find_flat_some, find_flat_more}
+use Rattle.spd_model.proofs.CallerLemmas.Finds.{find_flat_some, find_flat_more, is_some-option_map}
 use Rattle.spd_model.proofs.CallerLemmas.StateOrder.{length-states}
 use Rattle.spd_plain.specs.inner.Faults.{sum_record, sums_at}
-use Rattle.spd_plain.proofs.Numbered.{is_some-option_map}
 use Rattle.spd_plain.proofs.Tables.{state_is, state_read}
 use Rattle.spd_plain.proofs.validity.wrong_sum_of_var.Goals as goal
 

@@ -1,8 +1,9 @@
 use Rattle.std.proofs.Common.{arith}
 use Rattle.spd_nodes.proofs.CallerLemmas.{makes-diagram}
 use Rattle.spd_policy.specs.Choosing.{greatest_leaf}
-use Rattle.spd_policy.proofs.ListLaws.{greatest-tree, levels-from, list-holds, list-ready}
+use Rattle.spd_policy.proofs.ListLaws.{greatest-tree, list-holds, list-ready}
 use Rattle.spd_policy.proofs.highest.greatest_bound.Goals as goal
+use Rattle.spd_weigh.proofs.CallerLemmas.{levels-from}
 
 pub make_list-requires : goal.make_list-requires
 make_list-requires g c =

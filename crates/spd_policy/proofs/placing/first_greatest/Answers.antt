@@ -1,9 +1,10 @@
 use Rattle.std.proofs.Common.{◌∷◌, arith}
 use Rattle.spd_nodes.proofs.CallerLemmas.{makes-diagram}
 use Rattle.spd_policy.specs.Choosing.{place_leaf, IsLike}
-use Rattle.spd_policy.proofs.ListLaws.{levels-from, list-holds}
+use Rattle.spd_policy.proofs.ListLaws.{list-holds}
 use Rattle.spd_policy.proofs.PlaceLaws.{place-made, place-ready}
 use Rattle.spd_policy.proofs.placing.first_greatest.Goals as goal
+use Rattle.spd_weigh.proofs.CallerLemmas.{levels-from}
 
 pub cut-requires : goal.cut-requires
 cut-requires g c = rw c.in-Ok.ensures (omega arith)

@@ -10,11 +10,11 @@ use Rattle.spd_frozen.proofs.CallerLemmas.{fits-kids}
 use Rattle.spd_query.proofs.TextLaws.{then, state-text}
 use Rattle.spd_query.proofs.answering.state_line.Goals as goal
 
-pub at-requires : goal.at-requires
-at-requires c = fits-kids (sizes c.args.model.now) c.args.state.now c.args.iterate.now.value c.requires.fits.value c.requires.state
+pub at-value-requires-clause-value_kids : goal.at-value-requires-clause-value_kids
+at-value-requires-clause-value_kids c = fits-kids (sizes c.args.model.now) c.args.state.now c.args.iterate.now.value c.requires.fits.value c.requires.state
 
-pub at-requires-2 : goal.at-requires-2
-at-requires-2 c = fits-kids (sizes c.args.model.now) c.args.state.now c.args.iterate.now.policy c.requires.fits.policy c.requires.state
+pub at-value-requires-clause-policy_kids : goal.at-value-requires-clause-policy_kids
+at-value-requires-clause-policy_kids c = fits-kids (sizes c.args.model.now) c.args.state.now c.args.iterate.now.policy c.requires.fits.policy c.requires.state
 
 pub returns : goal.returns
 returns c =
@@ -26,8 +26,8 @@ returns c =
     let e = units x.error in
     let v_fits : FitsSigned w128 c.number.result = search rules in
     let e_fits : FitsSigned w128 x.error = search rules in
-    let value_is = ap units (to_z-of_z w128 c.number.result v_fits ∙ c.number.ensures ∙ ap number_of c.at.ensures) in
-    let action_is = c.short_name.ensures.name ∙ ap (action_name c.args.model.now) (c.action.ensures ∙ ap action_of c.at-2.ensures) in
+    let value_is = ap units (to_z-of_z w128 c.number.result v_fits ∙ c.number.ensures ∙ ap number_of c.at-value.ensures.value) in
+    let action_is = c.short_name.ensures.name ∙ ap (action_name c.args.model.now) (c.action.ensures ∙ ap action_of c.at-value.ensures.policy) in
     let p1 = then _ [] _ _ (codes "turn ") c.new-line.ensures c.put.ensures.text refl in
     let p2 = then _ _ _ _ k p1 c.put_number.ensures.text refl in
     let p3 = then _ _ _ _ (codes " value ") p2 c.put-2.ensures.text refl in

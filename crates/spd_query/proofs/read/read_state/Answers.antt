@@ -1,11 +1,8 @@
-use Rattle.std.proofs.Common.{None, Ok, sym, ◌∙◌}
+use Rattle.std.proofs.Common.{None, sym, ◌∙◌}
 use Rattle.std.proofs.lemmas.List.{take-replicate}
 use Rattle.spd_query.specs.Lines.{words_of}
 use Rattle.spd_query.proofs.GivenLaws.{state-refused, state-gathered, state-fits}
 use Rattle.spd_query.proofs.read.read_state.Goals as goal
-
-pub returns-in-Some-clause-fits : goal.returns-in-Some-clause-fits
-returns-in-Some-clause-fits c = state-fits c.args.vars.now (words_of c.args.line.now) (Ok c.in-Some.state) (sym c.in-Some.ensures)
 
 pub returns-in-Ok-clause-read : goal.returns-in-Ok-clause-read
 returns-in-Ok-clause-read c =
