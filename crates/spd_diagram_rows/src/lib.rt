@@ -20,6 +20,8 @@ mod leaf_order;
 #[cfg(test)]
 mod maps;
 #[cfg(test)]
+mod measuring;
+#[cfg(test)]
 mod merging;
 #[cfg(test)]
 mod reading;
