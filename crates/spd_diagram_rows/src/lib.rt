@@ -24,6 +24,8 @@ mod maps;
 #[cfg(test)]
 mod memos;
 #[cfg(test)]
+mod merging;
+#[cfg(test)]
 mod reading;
 #[cfg(test)]
 mod restrictions;

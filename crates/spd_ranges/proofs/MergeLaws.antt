@@ -9,7 +9,7 @@ use Rattle.spd_nodes.specs.Shown.{Shown, IsSound, IsWhole, StandsFor, MakesOnly,
 use Rattle.spd_nodes.specs.Made.{HasMade}
 use Rattle.spd_model.specs.States.{IsState}
 use Rattle.spd_nodes.proofs.CallerLemmas.{Among, IsIn, diagram-agrees, grows-then, has-made, has-none, has-then, has-wider, makes_among-known, part-failed, positive-slots, stands-for, stands-grows, test_tree-agree, within-in}
-use Rattle.spd_apply.specs.Operations.{are_nums, is_pair, pair_of}
+use Rattle.spd_apply.specs.Operations.{pair_of}
 use Rattle.spd_apply.specs.Outcome.{FitEverywhere, FitsEverywhere, map_each}
 use Rattle.spd_ranges.specs.declared.groups.Group.{Group}
 use Rattle.spd_ranges.specs.declared.merging.Ranged.{Ranged}
@@ -19,24 +19,6 @@ use Rattle.spd_ranges.proofs.GroupLaws.{value-middle}
 use Rattle.spd_ranges.proofs.LeafLaws.{AreRanges, group-is_range, groups-agree, own-range}
 
 -- ---- conditions
-
-range-pair : (a : Leaf) → is_range a ≡ true → is_pair a ≡ true
-range-pair (Num a) h = absurd (true≢false (sym h))
-range-pair (Pair a x) h = refl
-range-pair (Act a) h = absurd (true≢false (sym h))
-
-pub fits-pair : (s : Shown) (f : Entry) → FitsEverywhere is_range s f → FitsEverywhere is_pair s f
-fits-pair s f h = record { at = λ x y i j. range-pair (meaning s f x y) (h.at x y i j) }
-
-most-nums : (a b : Leaf) → at_most a b ≡ true → are_nums a b ≡ true
-most-nums (Num a) (Num b) h = refl
-most-nums (Num a) (Pair b y) h = absurd (true≢false (sym h))
-most-nums (Num a) (Act b) h = absurd (true≢false (sym h))
-most-nums (Pair a x) b h = absurd (true≢false (sym h))
-most-nums (Act a) b h = absurd (true≢false (sym h))
-
-pub fit-nums : (s : Shown) (f g : Entry) → FitEverywhere at_most s f g → FitEverywhere are_nums s f g
-fit-nums s f g h = record { at = λ x y i j. most-nums (meaning s f x y) (meaning s g x y) (h.at x y i j) }
 
 most-range : (a b : Leaf) → at_most a b ≡ true → is_range (pair_of a b) ≡ true
 most-range (Num a) (Num b) h = h
