@@ -1,5 +1,5 @@
 -- The functions of each part of building are among the functions of building, and what that says of faults.
-use Rattle.std.proofs.Common.{◌≡◌, ℕ, suc, ◌+◌, ◌<◌, ◌⊎◌, MatchResult, List, [], ◌∷◌, ◌++◌, length, map, flat_map, get_or, take, inl, inr, refl, sym, ◌∙◌, ap, subst, arith, pos, Contains, Result, Ok, Err, IfErr}
+use Rattle.std.proofs.Common.{◌≡◌, ℕ, suc, ◌+◌, ◌<◌, ◌⊎◌, MatchResult, List, [], ◌∷◌, ◌++◌, length, flat_map, get_or, inl, inr, refl, sym, ap, subst, arith, pos, Contains, Result, Ok, Err, IfErr}
 use Rattle.std.specs.Prelude.{slice_get, Some, None}
 use Rattle.std.specs.Result.{IsErrAnd}
 use Rattle.std.proofs.lemmas.Option.{slice_get-get_or}

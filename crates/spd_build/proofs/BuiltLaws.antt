@@ -1,12 +1,11 @@
 -- The lists of nodes of diagrams that stand for functions are those of the functions.
-use Rattle.std.proofs.Common.{◌≡◌, ℕ, ◌+◌, ◌<◌, List, [], ◌∷◌, ◌++◌, length, map, get_or, take, refl, sym, ◌∙◌, ap, subst, All, ℤ}
+use Rattle.std.proofs.Common.{◌≡◌, ℕ, ◌+◌, ◌<◌, List, [], ◌∷◌, ◌++◌, length, map, get_or, take, refl, sym, ◌∙◌, ap, All, ℤ}
 use Rattle.std.specs.List.{AllZip}
 use Rattle.std.proofs.lemmas.List.{take_more, map_push}
 use Rattle.std.proofs.lemmas.List.Elements.{All-nil, All-cons}
 use Rattle.spd_cons_core.specs.declared.key.Entry.{Entry}
 use Rattle.spd_model.specs.declared.process.Action.{Action}
 use Rattle.spd_model.specs.Process.{Process}
-use Rattle.spd_model.specs.Numbers.{greatest}
 use Rattle.spd_model.specs.States.{sizes}
 use Rattle.spd_model.specs.Chances.{reward_of}
 use Rattle.spd_nodes.specs.declared.leaf.Leaf.TheVariants.{Num}
@@ -17,7 +16,7 @@ use Rattle.spd_frozen.specs.Frozen.{frozen_of}
 use Rattle.spd_frozen.specs.Mixed.{mixed_of}
 use Rattle.spd_frozen.proofs.CallerLemmas.{frozen_of-agree, mixed_of-agree}
 use Rattle.spd_build.specs.Built.{frozen_numbers}
-use Rattle.spd_build.specs.Functions.{reward, start}
+use Rattle.spd_build.specs.Functions.{reward}
 
 -- one entry more, in order
 pub image-more : {X Y : Type 0} (f : X → Y) (xs : List X) (i : ℕ) (d : X) (old new : List Y) (y : Y) → i < length xs

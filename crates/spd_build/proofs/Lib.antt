@@ -9,3 +9,5 @@ pub mod TableLaws
 pub mod WeighingLaws
 pub mod PlaceLaws
 mod TableRows
+mod RewardRows
+pub mod LayoutLaws

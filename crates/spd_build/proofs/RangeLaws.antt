@@ -1,5 +1,5 @@
 -- The first place at which a reward's diagram has a number past the limit, as the first wide reward of an action.
-use Rattle.std.proofs.Common.{◌≡◌, ℕ, ◌+◌, ◌<◌, ◌≤◌, take, get_or, Bool, true, false, cond, List, [], ◌∷◌, ◌++◌, length, map, flat_map, find, refl, sym, ◌∙◌, ap, arith, All, Option, Some, None, not, nat_le, unsigned_abs}
+use Rattle.std.proofs.Common.{◌≡◌, ℕ, ◌+◌, ◌<◌, ◌≤◌, take, get_or, Bool, true, false, cond, List, [], ◌∷◌, length, map, flat_map, find, refl, sym, ◌∙◌, ap, arith, All, Some, None, not, nat_le, unsigned_abs}
 use Rattle.std.specs.List.{enumerate_from}
 use Rattle.std.specs.Option.{option_map, option_or}
 use Rattle.std.proofs.lemmas.List.Folds.{find-append}

@@ -1,5 +1,5 @@
 -- Sums of parts and rewards as diagrams.
-use Rattle.std.proofs.Common.{◌≡◌, ℕ, zero, suc, ◌+◌, ◌*◌, ◌^◌, ◌<◌, ◌≤◌, List, [], ◌∷◌, ◌++◌, length, map, flat_map, get_or, take, refl, sym, ◌∙◌, ap, subst, arith, true, ℤ, pos, negsuc, ◌+ℤ◌, ◌-ℤ◌, All, Contains, Bool, if◌then◌else◌, slice_index}
+use Rattle.std.proofs.Common.{◌≡◌, ℕ, ◌+◌, ◌*◌, ◌^◌, ◌<◌, ◌≤◌, List, [], ◌∷◌, length, map, get_or, take, refl, sym, ◌∙◌, ap, subst, arith, true, ℤ, pos, negsuc, ◌+ℤ◌, ◌-ℤ◌, All, Contains, Bool, if◌then◌else◌, slice_index}
 use Rattle.std.proofs.lemmas.Int.{ints}
 use Rattle.std.proofs.lemmas.Bool.Decides.{Decides-ltb}
 use Rattle.std.proofs.lemmas.List.{take_all, length-take}
@@ -17,7 +17,7 @@ use Rattle.spd_model.specs.Trees.{Part, number, choice, missing, parts_of, value
 use Rattle.spd_model.proofs.CallerLemmas.Sums.{total_more}
 use Rattle.spd_model.proofs.CallerLemmas.TreeValues.{value_within, value_same, GoesAlike}
 use Rattle.spd_nodes.specs.declared.leaf.Leaf.TheVariants.{Num}
-use Rattle.spd_nodes.specs.States.{Function, Agree}
+use Rattle.spd_nodes.specs.States.{Agree}
 use Rattle.spd_nodes.specs.Shown.{Shown, StandsFor, meaning}
 use Rattle.spd_nodes.proofs.CallerLemmas.{stand-length}
 use Rattle.spd_apply.specs.Operations.{in_i128, num_of, num_fits}

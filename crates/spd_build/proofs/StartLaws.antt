@@ -1,5 +1,5 @@
 -- The greatest reward over the first actions as a diagram.
-use Rattle.std.proofs.Common.{◌≡◌, ℕ, zero, suc, ◌+◌, ◌<◌, ◌≤◌, List, [], ◌∷◌, ◌++◌, length, map, flat_map, get_or, take, drop, refl, sym, ◌∙◌, ap, subst, arith, true, ℤ, inl, inr}
+use Rattle.std.proofs.Common.{◌≡◌, ℕ, suc, ◌+◌, ◌<◌, ◌≤◌, List, [], ◌∷◌, length, map, get_or, take, refl, sym, ◌∙◌, ap, subst, arith}
 use Rattle.std.specs.List.{AllZip}
 use Rattle.std.specs.Int.{int_max}
 use Rattle.std.proofs.lemmas.List.{take_all, take_more, map_push, get_or-map, length-take}
@@ -8,12 +8,11 @@ use Rattle.spd_cons_core.specs.declared.key.Entry.{Entry}
 use Rattle.spd_model.specs.declared.process.Action.{Action}
 use Rattle.spd_model.specs.Process.{Process}
 use Rattle.spd_model.specs.Numbers.{greatest, numbers_below}
-use Rattle.spd_model.specs.States.{IsState}
 use Rattle.spd_model.specs.Chances.{reward_of}
 use Rattle.spd_model.proofs.CallerLemmas.Greatest.{greatest-push}
 use Rattle.spd_model.proofs.CallerLemmas.Lists.{length-numbers_below, get_or-numbers_below}
 use Rattle.spd_nodes.specs.declared.leaf.Leaf.TheVariants.{Num}
-use Rattle.spd_nodes.specs.States.{Function, Agree}
+use Rattle.spd_nodes.specs.States.{Agree}
 use Rattle.spd_nodes.specs.Shown.{Shown, StandsFor, meaning}
 use Rattle.spd_nodes.proofs.CallerLemmas.{Among, among-flat, stand-length}
 use Rattle.spd_apply.specs.Operations.{are_nums, num_of}

@@ -1,5 +1,5 @@
 -- What building goes through: faults of its calls, what its memos hold, and the parts of it.
-use Rattle.std.specs.Prelude.{◌≡◌, ℕ, List, [], ◌∷◌, ◌++◌, length, map, flat_map, Bool, false, not, nat_le, unsigned_abs, ℤ, pos, ◌+ℤ◌, ◌-ℤ◌, ◌<◌, find, Option, Some, None, Result, IfErr, All}
+use Rattle.std.specs.Prelude.{List, [], ◌∷◌, ◌++◌, length, map, flat_map, ℤ, pos, ◌+ℤ◌, ◌-ℤ◌, ◌<◌, Result, IfErr}
 use Rattle.std.specs.Int.{int_max}
 use Rattle.std.specs.List.{AllZip}
 use Rattle.spd_scaled.specs.Scaled.{floor_div}
@@ -9,10 +9,6 @@ use Rattle.spd_model.specs.declared.tree.Tree.{Tree}
 use Rattle.spd_model.specs.declared.process.Action.{Action}
 use Rattle.spd_model.specs.Process.{Process}
 use Rattle.spd_model.specs.Numbers.{numbers_below}
-use Rattle.spd_model.specs.States.{sizes, states}
-use Rattle.spd_model.specs.Chances.{reward_of, reward_limit, first_wrong_sum, first_wide_reward}
-use Rattle.spd_nodes.specs.declared.leaf.Leaf.{Leaf}
-use Rattle.spd_nodes.specs.declared.leaf.Leaf.TheVariants as L
 use Rattle.spd_nodes.specs.declared.forest.StoreFault.{StoreFault}
 use Rattle.spd_nodes.specs.declared.forest.StoreFault.TheVariants as Store
 use Rattle.spd_nodes.specs.States.{Function}
@@ -23,7 +19,7 @@ use Rattle.spd_apply.specs.Operations.{num_of}
 use Rattle.spd_apply.specs.Rules.{HoldsAnswers}
 use Rattle.spd_build.specs.declared.built.BuildFault.{BuildFault}
 use Rattle.spd_build.specs.declared.built.BuildFault.TheVariants as Fault
-use Rattle.spd_build.specs.Functions.{constant, part_sum, part_functions_at, all_weights, reward, start, building_functions}
+use Rattle.spd_build.specs.Functions.{constant, part_sum, part_functions_at, reward, building_functions}
 use Rattle.spd_build.specs.Built.{BuildCause}
 
 -- the fault of building where a call of the forest failed

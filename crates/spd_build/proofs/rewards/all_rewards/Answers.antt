@@ -1,10 +1,9 @@
-use Rattle.std.proofs.Common.{◌≡◌, ◌∙◌, ◌<◌, ◌≤◌, ℕ, List, [], ◌∷◌, length, map, take, get_or, Ok, Err, ap, refl, sym, subst, arith}
+use Rattle.std.proofs.Common.{◌≡◌, ◌∙◌, ◌<◌, ◌≤◌, List, [], length, map, get_or, Ok, Err, ap, refl, sym, subst, arith}
 use Rattle.std.specs.List.{AllZip}
 use Rattle.spd_cons_core.specs.declared.key.Entry.{Entry}
 use Rattle.spd_model.specs.declared.tree.Tree.{Tree}
 use Rattle.spd_model.specs.declared.process.Action.{Action}
 use Rattle.spd_model.specs.Process.{Process}
-use Rattle.spd_memo.specs.Kept.{KeptAnswers}
 use Rattle.spd_nodes.specs.Shown.{StandsFor, MakesAmong}
 use Rattle.spd_nodes.proofs.CallerLemmas.{has-made, has-then, has-wider, stand-grow, stand-more, stands-grows}
 use Rattle.spd_apply.specs.Applied.{applied}

@@ -1,4 +1,4 @@
-use Rattle.std.proofs.Common.{◌≡◌, sym, subst}
+use Rattle.std.proofs.Common.{sym, subst}
 use Rattle.spd_nodes.specs.Made.{HasMade}
 use Rattle.spd_nodes.specs.Shown.{Shown}
 use Rattle.spd_nodes.proofs.CallerLemmas.{fault-wider, has-made, has-wider}

@@ -1,4 +1,4 @@
-use Rattle.std.proofs.Common.{◌≡◌, List, [], ◌∷◌, Ok, Err, sym, subst}
+use Rattle.std.proofs.Common.{List, [], ◌∷◌, Ok, Err, sym, subst}
 use Rattle.spd_model.specs.declared.tree.Tree.{Tree}
 use Rattle.spd_model.specs.Lawful.{IsLawful}
 use Rattle.spd_model.proofs.CallerLemmas.Results.{err_is}

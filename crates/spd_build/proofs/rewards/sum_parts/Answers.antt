@@ -1,4 +1,4 @@
-use Rattle.std.proofs.Common.{◌≡◌, ◌≤◌, ◌∙◌, ◌+ℤ◌, ℕ, [], ◌∷◌, length, map, inl, refl, sym, subst, arith}
+use Rattle.std.proofs.Common.{◌∙◌, length, map, inl, refl, sym, subst, arith}
 use Rattle.std.proofs.lemmas.List.Elements.{All-get_or}
 use Rattle.spd_model.specs.declared.tree.Tree.{Tree}
 use Rattle.spd_model.specs.Lawful.{IsReward}

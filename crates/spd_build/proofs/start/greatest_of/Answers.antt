@@ -1,8 +1,4 @@
-use Rattle.std.proofs.Common.{◌≡◌, ◌∙◌, ◌<◌, ◌≤◌, ℕ, [], ◌∷◌, length, map, Ok, refl, sym, subst, arith}
-use Rattle.std.specs.List.{AllZip}
-use Rattle.spd_cons_core.specs.declared.key.Entry.{Entry}
-use Rattle.spd_model.specs.declared.process.Action.{Action}
-use Rattle.spd_model.specs.Process.{Process}
+use Rattle.std.proofs.Common.{◌∙◌, ◌<◌, ◌≤◌, length, refl, sym, subst, arith}
 use Rattle.spd_model.proofs.CallerLemmas.Results.{err_is}
 use Rattle.spd_nodes.specs.Shown.{StandsFor, MakesAmong}
 use Rattle.spd_nodes.proofs.CallerLemmas.{among-after, among-fails, diagram-agrees, has-made, has-none, has-then, stands-grows}
