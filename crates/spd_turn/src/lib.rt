@@ -1,0 +1,11 @@
+//! A turn of value iteration on decision diagrams.
+//!
+//! `spd_turn` ends a turn (`finish`): of the bounds of all actions it makes the best, the value of the next turn and the residual, and
+//! writes down what is told of the turn (SPUDD, UAI 1999). `backup_all` backs up all actions one after another. Both work over any
+//! forest.
+#![tactic(auto)]
+
+mod ending;
+mod telling;
+
+pub use ending::{Finished, finish};
