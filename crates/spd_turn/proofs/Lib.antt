@@ -1,2 +1,3 @@
+mod BackupLaws
 mod BoundLaws
 mod FinishLaws

@@ -5,7 +5,9 @@
 //! forest.
 #![tactic(auto)]
 
+mod backups;
 mod ending;
 mod telling;
 
+pub use backups::backup_all;
 pub use ending::{Finished, finish};
