@@ -1,7 +1,7 @@
 use Rattle.std.proofs.Common.{◌+◌, ◌<◌, ◌∙◌, length, refl, sym, subst, arith}
 use Rattle.spd_model.proofs.CallerLemmas.Results.{err_is}
 use Rattle.spd_turn.specs.Backups.{BacksUpAll, HaveBackedUp}
-use Rattle.spd_turn.proofs.BackupLaws.{all-backed, backed-more, backup-fails, can-then, count-actions, has-action, is-thawed, push-fails}
+use Rattle.spd_turn.proofs.BackupLaws.{all-backed, backed-more, backup-fails, can-then, chosen, count-actions, has-action, is-thawed, push-fails}
 use Rattle.spd_turn.proofs.backups.backup_all.Goals as goal
 
 pub overflow_cast-action : goal.overflow_cast-action
@@ -80,7 +80,7 @@ returns-in_err-bounds-clause-made g c = λ m value can.
     let here = c.loop-action.invariant.backed m value can in
     let near : i < length x.rewards.items = omega (arith, c.loop-action-test.true) in
     subst (BacksUpAll m value s v) (sym (err_is c.from_residual.result c.in_err-bounds.field-0.0 c.from_residual.ensures.1))
-    (backup-fails m value s x c.args.w can i t bs here near v c.in_err-bounds.field-0.0 (c.in_err-bounds.ensures.made m _ value (has-action m value s x c.args.w can i t bs here near) (can-then m value s x c.args.w can i t bs here).numbers))
+    (backup-fails m value s x c.args.w can i t bs here near v c.in_err-bounds.field-0.0 (c.in_err-bounds.ensures.made m (chosen m value s x c.args.w can i t bs here near).0 value (has-action m value s x c.args.w can i t bs here near) (can-then m value s x c.args.w can i t bs here).numbers))
 
 pub returns-in_err-push-clause-made : goal.returns-in_err-push-clause-made
 returns-in_err-push-clause-made g c = λ m value can.
@@ -93,7 +93,7 @@ returns-in_err-push-clause-made g c = λ m value can.
     let here = c.loop-action.invariant.backed m value can in
     let near : i < length x.rewards.items = omega (arith, c.loop-action-test.true) in
     subst (BacksUpAll m value s v) (sym (err_is c.from_residual-in_err-push.result c.in_err-push.field-0.0 c.from_residual-in_err-push.ensures.1))
-    (push-fails m value s x c.args.w can i t bs here near v c.in_ok-bounds.bounds c.in_err-push.field-0.0 c.in_err-push.ensures.memory (c.in_ok-bounds.ensures.made m _ value (has-action m value s x c.args.w can i t bs here near) (can-then m value s x c.args.w can i t bs here).numbers))
+    (push-fails m value s x c.args.w can i t bs here near v c.in_ok-bounds.bounds c.in_err-push.field-0.0 c.in_err-push.ensures.memory (c.in_ok-bounds.ensures.made m (chosen m value s x c.args.w can i t bs here near).0 value (has-action m value s x c.args.w can i t bs here near) (can-then m value s x c.args.w can i t bs here).numbers))
 
 pub loop-action-preserved : goal.loop-action-preserved
 loop-action-preserved g c =
@@ -107,7 +107,7 @@ loop-action-preserved g c =
     record {
       backed = λ m value can.
           let here = c.loop-action.invariant.backed m value can in
-          subst (HaveBackedUp m value s (i + 1) v) (sym c.in_ok-push.ensures.items) (backed-more m value s x c.args.w can i t bs here near v c.in_ok-bounds.bounds (c.in_ok-bounds.ensures.made m _ value (has-action m value s x c.args.w can i t bs here near) (can-then m value s x c.args.w can i t bs here).numbers));
+          subst (HaveBackedUp m value s (i + 1) v) (sym c.in_ok-push.ensures.items) (backed-more m value s x c.args.w can i t bs here near v c.in_ok-bounds.bounds (c.in_ok-bounds.ensures.made m (chosen m value s x c.args.w can i t bs here near).0 value (has-action m value s x c.args.w can i t bs here near) (can-then m value s x c.args.w can i t bs here).numbers));
       tables = c.backup_with.ensures.tables;
       keeps = c.backup_with.ensures.keeps ∙ c.loop-action.invariant.keeps;
     }
