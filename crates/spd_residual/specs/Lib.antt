@@ -1,2 +1,2 @@
 pub mod Residual
-pub mod Finding
+pub mod inner

@@ -4,8 +4,9 @@ ghost use Rattle.std.specs.Prelude.{◌≡◌, ◌≤◌, All, IfOk, length, tru
 ghost use Rattle.spd_model.specs.States.{IsState};
 ghost use Rattle.spd_nodes.specs.Shown.{Shown};
 ghost use Rattle.spd_weigh.specs.Leaves.{number_of};
+ghost use Rattle.spd_policy.specs.Best.{IsNum};
 ghost use Rattle.spd_residual.specs.Residual.{Gaps, place_at_state, IsResidual};
-ghost use Rattle.spd_residual.specs.Finding.{AreKnownAt, TellGaps, TellSomeGaps};
+ghost use Rattle.spd_residual.specs.inner.Finding.{AreKnownAt, TellGaps, TellSomeGaps};
 
 use crate::gaps::GapDiagrams;
 use crate::leaves::{Sought, action_of, first_upper, last_leaf, leaf_at, number_of};

@@ -6,7 +6,7 @@ ghost use Rattle.spd_nodes.specs.Shown.{Shown, IsWhole, MakesDiagram, meaning};
 ghost use Rattle.spd_apply.specs.Operations.{num_of};
 ghost use Rattle.spd_apply.specs.Outcome.{at_each, FitEverywhere};
 ghost use Rattle.spd_residual.specs.Residual.{Gaps, IsValued};
-ghost use Rattle.spd_residual.specs.Finding.{HaveGaps, MakesGaps};
+ghost use Rattle.spd_residual.specs.inner.Finding.{HaveGaps, MakesGaps};
 
 use spd_apply::{LeafOp, Max, OpFault, Sub, apply};
 use spd_memo::Memo;

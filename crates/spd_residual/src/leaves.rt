@@ -1,11 +1,11 @@
 //! Leaves of diagrams: the greatest one, and the one at a state.
 
-ghost use Rattle.std.specs.Prelude.{◌≡◌, IfOk, true};
+ghost use Rattle.std.specs.Prelude.{◌≡◌, ◌≤◌, All, IfOk, length, true};
 ghost use Rattle.spd_model.specs.States.{IsState};
-ghost use Rattle.spd_nodes.specs.Shown.{Shown, IsSound, IsWhole, meaning};
+ghost use Rattle.spd_nodes.specs.Shown.{Shown, IsWhole, meaning};
 ghost use Rattle.spd_nodes.specs.Trees.{leaf_eq};
 ghost use Rattle.spd_weigh.specs.Leaves.{number_of};
-ghost use Rattle.spd_residual.specs.Finding.{first_upper, IsLastLeaf};
+ghost use Rattle.spd_residual.specs.inner.Finding.{first_upper, action_number, IsLastLeaf};
 
 use spd_apply::leaves_of;
 use spd_backup::Bounds;
@@ -101,8 +101,10 @@ pub(crate) fn first_upper<F: Forest>(
     ensures keeps { F.kept forest.new ≡ F.kept forest.old }
     ensures first { result ≡ first_upper (F.shows forest.old) bounds.now leaf state.now }
 {
+    let sought = Sought(leaf);
     for i in 0..bounds.len() {
-        if leaf_at(forest, bounds[i].hi, state) == leaf {
+        let upper = leaf_at(forest, bounds[i].hi, state);
+        if sought.is_wanted(upper) {
             return i as u32;
         }
     }

@@ -9,6 +9,6 @@
 mod finding;
 mod gaps;
 mod leaves;
-mod residual;
+mod measuring;
 
-pub use residual::residual;
+pub use measuring::residual;

@@ -1,10 +1,10 @@
 -- What diagrams tell of the gaps at each state, on the way to a residual.
-use Rattle.std.specs.Prelude.{◌≡◌, ◌⊎◌, ℕ, Bool, true, List, map, ℤ, pos, ◌-ℤ◌, ◌≤ℤ◌, Result, IfOk}
+use Rattle.std.specs.Prelude.{◌≡◌, ◌⊎◌, ℕ, true, List, pos, ◌-ℤ◌, ◌≤ℤ◌, Result, IfOk}
 use Rattle.std.specs.List.{position_or_len}
 use Rattle.spd_cons_core.specs.declared.key.Entry.{Entry}
 use Rattle.spd_model.specs.States.{IsState}
 use Rattle.spd_nodes.specs.declared.leaf.Leaf.{Leaf}
-use Rattle.spd_nodes.specs.declared.leaf.Leaf.TheVariants.{Num, Act}
+use Rattle.spd_nodes.specs.declared.leaf.Leaf.TheVariants.{Num, Pair, Act}
 use Rattle.spd_nodes.specs.declared.forest.StoreFault.{StoreFault}
 use Rattle.spd_nodes.specs.Made.{MakesAll}
 use Rattle.spd_nodes.specs.Shown.{Shown, IsWhole, StandsFor, meaning}
@@ -65,6 +65,12 @@ pub record TellGaps (g : Gaps) (s : Shown) (bounds : List Bounds) (best : Best) 
 pub record TellSomeGaps (s : Shown) (bounds : List Bounds) (best : Best) (d : GapDiagrams) : Type 0 where
   pub gaps : Gaps
   pub tell : TellGaps gaps s bounds best d
+
+-- the number of an action's leaf; a leaf of another kind counts as 0
+abbrev pub action_number : Leaf → ℕ
+action_number (Num x) = 0
+action_number (Pair x y) = 0
+action_number (Act a) = a
 
 -- a leaf is the last one that a function takes
 pub record IsLastLeaf (sizes : List ℕ) (f : Function) (leaf : Leaf) : Type 0 where
