@@ -1,36 +1,25 @@
 -- What the bounds of all actions of a valid process are, where a value within limits follows.
-use Rattle.std.proofs.Common.{◌≡◌, ℕ, suc, ◌<◌, Bool, true, false, if◌then◌else◌, List, [], ◌∷◌, map, length, refl, sym, ◌∙◌, ap, subst, subst₂, arith, ℤ, pos, ◌≤ℤ◌, ◌<ℤ◌, int_le, All, Contains}
+use Rattle.std.proofs.Common.{◌≡◌, ℕ, suc, ◌<◌, Bool, true, false, if◌then◌else◌, List, [], ◌∷◌, map, length, refl, sym, ap, subst, arith, ℤ, ◌≤ℤ◌, int_le, All, Contains}
 use Rattle.std.specs.List.{AllZip}
 use Rattle.std.specs.Ordering.{int_eq}
 use Rattle.std.proofs.lemmas.Int.{ints}
 use Rattle.std.proofs.lemmas.List.{length-map}
 use Rattle.std.proofs.lemmas.List.Elements.{All-nil, All-cons, All-head, All-tail, All-contains_itself}
 use Rattle.std.proofs.lemmas.Option.{slice_get_within}
-use Rattle.spd_scaled.specs.Scaled.{floor_div, ceil_div}
-use Rattle.spd_scaled.proofs.CallerLemmas.Ring.{≤ℤ_trans, *ℤ_mono_right}
-use Rattle.spd_scaled.proofs.CallerLemmas.DivisionLaws.{floor_div_mono, floor_div-≤ℤ-ceil_div}
 use Rattle.spd_cons_core.specs.declared.key.Entry.{Entry}
 use Rattle.spd_model.specs.declared.process.Action.{Action}
 use Rattle.spd_model.specs.declared.Side.TheVariants.{Above, Below}
 use Rattle.spd_model.specs.Process.{Process}
-use Rattle.spd_model.specs.Lawful.{IsLawful}
-use Rattle.spd_model.specs.Chances.{IsValid, probability, discount_one}
-use Rattle.spd_model.specs.States.{sizes, IsState}
 use Rattle.spd_model.specs.Backup.{low_of, high_of, best_high, policy_of, highest_of}
-use Rattle.spd_model.specs.Turns.{IsBounded, Place, place_of, gap_above, state_of_residual}
-use Rattle.spd_model.proofs.CallerLemmas.Bounded.{return_limited, floor_keeps, ceil_keeps}
-use Rattle.spd_model.proofs.CallerLemmas.Chances.{chances_of}
-use Rattle.spd_model.proofs.CallerLemmas.Gaps.{expected_ordered, policy_near}
+use Rattle.spd_model.specs.Turns.{Place, place_of, gap_above, state_of_residual}
+use Rattle.spd_model.proofs.CallerLemmas.Gaps.{policy_near}
 use Rattle.spd_model.proofs.CallerLemmas.Greatest.{first_place_reads, greatest_reached}
-use Rattle.spd_model.proofs.CallerLemmas.StateOrder.{IsState-none, length-sizes}
 use Rattle.spd_nodes.specs.Shown.{Shown, StandsFor}
 use Rattle.spd_weigh.specs.declared.way.Way.TheVariants.{Down, Up}
-use Rattle.spd_weigh.specs.Leaves.{number_of, IsValue}
 use Rattle.spd_build.specs.Functions.{numbers}
 use Rattle.spd_backup.specs.declared.backing.Bounds.{Bounds}
 use Rattle.spd_backup.specs.Expected.{bound}
 use Rattle.spd_policy.specs.Best.{IsNum, IsNumeric, AreNumeric, lows_of, highs_of, AreBoundsOf}
-use Rattle.spd_residual.specs.Residual.{IsValueOfState, AreOrdered}
 
 -- ---- what holds of the bounds of each action
 
@@ -62,35 +51,6 @@ numeric-of s r f h = record { known = h.knows; whole = h.whole; numbers = λ x y
 pub bounds-numeric : (m : Process) (w : List ℕ → ℤ) (s : Shown) (bs : List Bounds) → AreBoundsOf m w s bs → All (AreNumeric s) bs
 bounds-numeric m w s =
     each-bounds m w s (AreNumeric s) (λ b a offered l u. record { lower = numeric-of s b.lo (λ x t. low_of m w a x) l; upper = numeric-of s b.hi (λ x t. high_of m w a x) u })
-
--- ---- order
-
-floor-ceil : (x y d : ℤ) → pos 0 <ℤ d → x ≤ℤ y → floor_div x d ≤ℤ ceil_div y d
-floor-ceil x y d p h = ≤ℤ_trans (floor_div x d) (floor_div y d) (ceil_div y d) (floor_div_mono x y d p h) (floor_div-≤ℤ-ceil_div y d p)
-
--- the lower bound of a return is at most the upper one
-return-ordered : (m : Process) → IsValid m → (w : List ℕ → ℤ) (s : List ℕ) → IsState (sizes m) s → (a : Action) → Contains m.actions a → low_of m w a s ≤ℤ high_of m w a s
-return-ordered m valid w s is a offered =
-    let e = expected_ordered (sizes m) (probability m a s) (chances_of m valid a offered s is) w (length m.vars) [] (omega (arith, length-sizes m))
-    (IsState-none (sizes m) (length m.vars) (omega (arith, length-sizes m))) in
-    let d = floor-ceil _ _ (pos discount_one) (omega (arith, ints)) (*ℤ_mono_right (pos m.discount) _ _ (omega (arith, ints)) e) in
-    omega (arith, ints, d)
-
--- an entry of a value within limits
-pub value-of : (s : Shown) (r : Entry) (f : List ℕ → ℤ) → StandsFor s r (numbers (λ x t. f x)) → ((x : List ℕ) → IsState s.sizes x → IsValue (numbers (λ x t. f x) x x)) → IsValueOfState s r
-value-of s r f h within = record {
-  valued = record { known = h.knows; whole = h.whole; values = record { at = λ x y p q. subst IsValue (sym (h.value.at x y p q)) (within x p) } };
-  present = λ x y p q. h.value.at x y p q ∙ sym (h.value.at x x p p);
-}
-
-pub bounds-ordered : (m : Process) → IsLawful m → IsValid m → (w : List ℕ → ℤ) → IsBounded (sizes m) w → (s : Shown) → s.sizes ≡ sizes m → (bs : List Bounds) → AreBoundsOf m w s bs → All (AreOrdered s) bs
-bounds-ordered m law valid w bounded s layout =
-    let state : (x : List ℕ) → IsState s.sizes x → IsState (sizes m) x = λ x p. subst (λ z. IsState z x) layout p in
-    each-bounds m w s (AreOrdered s) (λ b a offered l u. record {
-      lower = value-of s b.lo (low_of m w a) l (λ x p. return_limited m law valid floor_div floor_keeps w bounded a offered x (state x p));
-      upper = value-of s b.hi (high_of m w a) u (λ x p. return_limited m law valid ceil_div ceil_keeps w bounded a offered x (state x p));
-      ordered = λ x p. subst₂ (λ c d. number_of c ≤ℤ number_of d) (sym (l.value.at x x p p)) (sym (u.value.at x x p p)) (return-ordered m valid w x (state x p) a offered);
-    })
 
 -- ---- the action at the residual's place
 

@@ -1,6 +1,5 @@
 -- The end of a turn: what is made one after the other, and what is told of it.
-use Rattle.std.proofs.Common.{◌≡◌, ℕ, suc, ◌<◌, ◌^◌, List, [], ◌∷◌, ◌++◌, map, length, refl, sym, ◌∙◌, ap, subst, subst₂, ℤ, pos, true, Ok, Err, All}
-use Rattle.std.proofs.lemmas.List.Elements.{All-head, All-tail}
+use Rattle.std.proofs.Common.{◌≡◌, ℕ, suc, ◌<◌, ◌^◌, List, [], ◌∷◌, ◌++◌, length, refl, sym, ◌∙◌, ap, subst, subst₂, ℤ, pos, true, Ok, Err, All}
 use Rattle.spd_scaled.specs.Scaled.{IsWithin}
 use Rattle.spd_cons_core.specs.declared.key.Entry.{Entry}
 use Rattle.spd_model.specs.Process.{Process}
@@ -19,7 +18,7 @@ use Rattle.spd_nodes.specs.declared.leaf.Leaf.TheVariants.{Num, Act}
 use Rattle.spd_nodes.specs.Made.{HasMade, MakesAll}
 use Rattle.spd_nodes.specs.Shown.{Shown, Grows, StandsFor, meaning}
 use Rattle.spd_nodes.specs.States.{Function}
-use Rattle.spd_nodes.proofs.CallerLemmas.{Among, among-back, among-front, among-trans, all-out, fault-wider, grows-then, has-then, has-wider, stand-grow, stand-known, stands-grows}
+use Rattle.spd_nodes.proofs.CallerLemmas.{Among, among-back, among-front, among-trans, all-out, fault-wider, grows-then, has-then, has-wider, stand-grow, stands-grows}
 use Rattle.spd_apply.specs.Outcome.{FitEverywhere}
 use Rattle.spd_frozen.specs.declared.iterate.Residual.{Residual}
 use Rattle.spd_frozen.specs.Fits.{FitsModel, FitsSizes, HasLeaves, IsValue, IsChoice}
@@ -31,11 +30,12 @@ use Rattle.spd_backup.specs.Thawing.{HasNumbers}
 use Rattle.spd_policy.specs.declared.chosen.Best.{Best}
 use Rattle.spd_policy.specs.Best.{greatest_of, policy_by, best_functions, lows_of, highs_of, lows_in, highs_in, lower_bounds, upper_bounds, AreBest, AreNumeric, AreBoundsOf, MakesBestOf, MakesPolicy}
 use Rattle.spd_residual.specs.Residual.{IsValueOfState, AreOrdered, FindsResidualOf, IsResidualOf, gaps_of, residual_functions}
+use Rattle.spd_residual.proofs.CallerLemmas.{best-after, bounds-ordered, value-of-state}
 use Rattle.spd_ranges.specs.declared.merging.Ranged.{Ranged}
 use Rattle.spd_ranges.specs.Merging.{at_most, HaveBest, MergesTurn, turn_pairs, turn_ranges, turn_values}
 use Rattle.spd_turn.specs.declared.ending.Finished.{Finished}
 use Rattle.spd_turn.specs.Turn.{CanFinish, IsFinished, IsPresent, IsToldOf, finish_functions, greatest_low, present_value, value_of_turn}
-use Rattle.spd_turn.proofs.BoundLaws.{bounds-count, bounds-numeric, bounds-ordered, le-holds, place-near, value-of}
+use Rattle.spd_turn.proofs.BoundLaws.{bounds-count, bounds-numeric, le-holds, place-near}
 
 -- ---- calls that make nodes of several functions
 
@@ -54,13 +54,6 @@ present-of s r f h = record { known = h.knows; whole = h.whole; present = record
 -- its list of nodes
 list-of : (s : Shown) (sz : List ℕ) (r : Entry) (f : List ℕ → Leaf) → s.sizes ≡ sz → StandsFor s r (λ x t. f x) → frozen_of s.sizes (λ x. meaning s r x x) ≡ frozen_of sz f
 list-of s sz r f e h = frozen_of-agree s.sizes (λ x. meaning s r x x) f (λ x p. h.value.at x x p p) ∙ ap (λ z. frozen_of z f) e
-
-meanings-stay : (s t : Shown) → Grows s t → (rs : List Entry) → All (λ r. s.knows r ≡ true) rs → map (meaning t) rs ≡ map (meaning s) rs
-meanings-stay s t g [] h = refl
-meanings-stay s t g (r ∷ rs) h =
-    let here : meaning t r ≡ meaning s r = rw (g.sizes, g.trees r (All-head (λ q. s.knows q ≡ true) r rs h)) refl in
-    let rest : map (meaning t) rs ≡ map (meaning s) rs = meanings-stay s t g rs (All-tail (λ q. s.knows q ≡ true) r rs h) in
-    λ i. here i ∷ rest i
 
 bounds-grow : {m : Process} {w : List ℕ → ℤ} {s t : Shown} → Grows s t → (bs : List Bounds) → AreBoundsOf m w s bs → AreBoundsOf m w t bs
 bounds-grow {m = m} {w = w} g bs h = record { low = stand-grow g (lows_of bs) (lower_bounds m w) h.low; high = stand-grow g (highs_of bs) (upper_bounds m w) h.high }
@@ -147,17 +140,15 @@ module _ (m : Process) (law : IsLawful m) (valid : IsValid m) (span : ℤ) (k : 
         numbers-then = record { at = λ x p. value-then.value.at x x p p }
 
         pub value-fits : IsValueOfState u w
-        value-fits = value-of u w value value-then (λ x p. turn-bounded x (state u merge-made.grows x p))
+        value-fits = value-of-state u w value value-then (λ x p. turn-bounded x (state u merge-made.grows x p))
 
         pub bounds-fit : All (AreOrdered u) bs
         bounds-fit = bounds-ordered m law valid value turn-bounded u layout-then bs bounds-then
 
         pub best-then : AreBest (greatest_of (lows_in u bs)) (greatest_of (highs_in u bs)) (policy_by (lows_in u bs)) u chosen
         best-then =
-            let lows : lows_in u bs ≡ lows_in s bs = meanings-stay s u merge-made.grows (lows_of bs) (stand-known s (lows_of bs) (lower_bounds m value) ready.bounds.low) in
-            let highs : highs_in u bs ≡ highs_in s bs = meanings-stay s u merge-made.grows (highs_of bs) (stand-known s (highs_of bs) (upper_bounds m value) ready.bounds.high) in
             let g = r.made.made.grows in
-            subst₂ (λ ls hs. AreBest (greatest_of ls) (greatest_of hs) (policy_by ls) u chosen) (sym lows) (sym highs)
+            best-after s u merge-made.grows bs chosen (bounds-ordered m law valid value turn-bounded s ready.layout bs ready.bounds)
             (record { low = stands-grows g own.ok.low; high = stands-grows g own.ok.high; act = stands-grows g own.ok.act })
 
         -- the residual isn't found
