@@ -9,3 +9,4 @@ pub mod TableLaws
 pub mod WeighingLaws
 pub mod PlaceLaws
 mod TableRows
+mod RewardRows

@@ -18,7 +18,11 @@ use std::alloc::Global;
 use std::sync::ledger::Ledger;
 
 /// The lists of nodes of some diagrams over present and next values, in order.
-fn freeze_weights<F: Forest>(alloc: Global, forest: &mut F, refs: &[Ref]) -> Result<Vec<Mixed>, Memory>
+fn freeze_weights<F: Forest>(
+    alloc: Global,
+    forest: &mut F,
+    refs: &[Ref],
+) -> Result<Vec<Mixed>, Memory>
     requires known { All (λ r. (F.shows forest.old).knows r ≡ true) refs.now }
     requires whole { All (λ r. IsWhole (F.shows forest.old) r) refs.now }
     ensures same { F.shows forest.new ≡ F.shows forest.old }
@@ -33,7 +37,11 @@ fn freeze_weights<F: Forest>(alloc: Global, forest: &mut F, refs: &[Ref]) -> Res
 }
 
 /// The lists of nodes of some diagrams over present values, in order.
-fn freeze_rewards<F: Forest>(alloc: Global, forest: &mut F, refs: &[Ref]) -> Result<Vec<Frozen>, Memory>
+fn freeze_rewards<F: Forest>(
+    alloc: Global,
+    forest: &mut F,
+    refs: &[Ref],
+) -> Result<Vec<Frozen>, Memory>
     requires known { All (λ r. (F.shows forest.old).knows r ≡ true) refs.now }
     requires whole { All (λ r. IsWhole (F.shows forest.old) r) refs.now }
     requires present { All (λ r. IsOfPresent (F.shows forest.old) r) refs.now }
@@ -49,7 +57,12 @@ fn freeze_rewards<F: Forest>(alloc: Global, forest: &mut F, refs: &[Ref]) -> Res
 }
 
 /// What a model built is, of the diagrams of its parts.
-fn built_of<F: Forest>(alloc: Global, model: &Model, forest: &mut F, drawn: &Drawn) -> Result<Built, Memory>
+fn built_of<F: Forest>(
+    alloc: Global,
+    model: &Model,
+    forest: &mut F,
+    drawn: &Drawn,
+) -> Result<Built, Memory>
     requires layout { (F.shows forest.old).sizes ≡ sizes model.now }
     requires drawn { IsDrawn model.now (F.shows forest.old) drawn.now }
     ensures same { F.shows forest.new ≡ F.shows forest.old }

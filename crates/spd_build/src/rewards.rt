@@ -110,7 +110,15 @@ fn reward_after<F: Forest, L: Ledger>(
     let _ = forest.layout();
     // Reading a field tells the proof what every model keeps.
     let _vars = &model.vars;
-    let paid = sum_parts(alloc, model, forest, action.cost.as_slice(), dds, adds, steps)?;
+    let paid = sum_parts(
+        alloc,
+        model,
+        forest,
+        action.cost.as_slice(),
+        dds,
+        adds,
+        steps,
+    )?;
     apply(forest, &NetReward, gained, paid, nets, steps)
 }
 
@@ -140,7 +148,12 @@ pub(crate) fn number_of(leaf: Leaf) -> i128
 }
 
 /// Tests that the reward of the action of this number passes its limit at no state. It makes no nodes.
-fn test_range<F: Forest>(alloc: Global, forest: &mut F, number: usize, reward: Ref) -> Result<(), BuildFault>
+fn test_range<F: Forest>(
+    alloc: Global,
+    forest: &mut F,
+    number: usize,
+    reward: Ref,
+) -> Result<(), BuildFault>
     requires number { number < 64 }
     requires known { (F.shows forest.old).knows reward ≡ true }
     requires whole { IsWhole (F.shows forest.old) reward }
@@ -216,7 +229,15 @@ pub(crate) fn all_rewards<F: Forest, L: Ledger>(
     let _ = forest.layout();
     let mut nets = Memo::new(alloc, memo_size)?;
     let mut rewards = with_room(alloc, model.actions.len())?;
-    let gained = sum_parts(alloc, model, forest, model.reward.as_slice(), dds, adds, steps)?;
+    let gained = sum_parts(
+        alloc,
+        model,
+        forest,
+        model.reward.as_slice(),
+        dds,
+        adds,
+        steps,
+    )?;
     for (number, action) in model.actions.as_slice().iter().enumerate() {
         let reward = limited_reward(
             alloc, model, forest, gained, number, action, dds, adds, &mut nets, steps,
