@@ -1,0 +1,1 @@
+-- Jobs that were run.
