@@ -1,14 +1,14 @@
 use Rattle.std.proofs.Common.{refl, subst}
 use Rattle.spd_turn.specs.Jobs.{JobValue, RunsBackup}
-use Rattle.spd_turn.proofs.JobLaws.{job-thawed, job-runs, job-ready}
+use Rattle.spd_turn.proofs.JobLaws.{job-runs, job-ready}
 use Rattle.spd_turn.proofs.job.BackupJobJob.run.Goals as goal
-use Rattle.spd_turn.proofs.job.BackupJobJob.run.Goals.{After-back_up-self-inside}
+
 
 -- the job before its run, and after it
-abbrev before : After-back_up-self-inside → JobValue
+abbrev before : goal.After-self-1 → JobValue
 before c = record { grove = c.self.inside.grove; thawed = c.self.inside.thawed.now; w = c.self.inside.w; action = c.self.inside.action; tables = c.self.inside.tables; outcome = c.self.inside.outcome }
 
-abbrev after : After-back_up-self-inside → JobValue
+abbrev after : goal.After-self-1 → JobValue
 after c = record { grove = c.back_up-self-inside.new.forest; thawed = c.self.inside.thawed.now; w = c.self.inside.w; action = c.self.inside.action; tables = c.back_up-self-inside.new.tables; outcome = c.back_up-self-inside.result }
 
 pub invariant_of-self : goal.invariant_of-self
