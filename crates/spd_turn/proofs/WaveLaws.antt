@@ -109,3 +109,131 @@ backed-push m value s [] [] b a h k = (k, tt)
 backed-push m value s [] (c ∷ actions) b a h k = absurd h
 backed-push m value s (d ∷ bs) [] b a h k = absurd h
 backed-push m value s (d ∷ bs) (c ∷ actions) b a h k = (h.0, backed-push m value s bs actions b a h.1 k)
+
+-- ---- lists with one more member
+
+pub all-push : {X : Type 0} (P : X → Type 0) (xs : List X) (y : X) → All P xs → P y → All P (xs ++ y ∷ [])
+all-push P xs y h k = All-append P xs (y ∷ []) h (All-cons P y [] k (All-nil P))
+
+all-front : {X : Type 0} (P : X → Type 0) (xs : List X) (y : X) → All P (xs ++ y ∷ []) → All P xs
+all-front P [] y h = All-nil P
+all-front P (x ∷ xs) y h = All-cons P x xs (All-head P x (xs ++ y ∷ []) h) (all-front P xs y (All-tail P x (xs ++ y ∷ []) h))
+
+all-last : {X : Type 0} (P : X → Type 0) (xs : List X) (y : X) → All P (xs ++ y ∷ []) → P y
+all-last P [] y h = All-head P y [] h
+all-last P (x ∷ xs) y h = all-last P xs y (All-tail P x (xs ++ y ∷ []) h)
+
+hold-all : (x : Thawed) (s t : Shown) (tables : List Tables) → Grows s t → All (HoldFor x s) tables → All (HoldFor x t) tables
+hold-all x s t [] g h = All-nil (HoldFor x t)
+hold-all x s t (u ∷ us) g h = All-cons (HoldFor x t) u us (hold-keeps s t (grows-keeps g) x u (All-head (HoldFor x s) u us h)) (hold-all x s t us g (All-tail (HoldFor x s) u us h))
+
+-- ---- one more outcome
+
+fault-push : (f : Option StoreFault) (js : List JobValue) (j : JobValue) → fault_of f (js ++ j ∷ []) ≡ first_fault (fault_of f js) j.outcome
+fault-push f [] j = refl
+fault-push f (k ∷ js) j = fault-push (first_fault f k.outcome) js j
+
+with-count : (bs : List Bounds) (o : Result Bounds StoreFault) → length (with_bounds bs o) ≤ length bs + 1
+with-count bs (Ok b) = omega (arith, length-append bs (b ∷ []))
+with-count bs (Err e) = omega arith
+
+module _ (m : Process) (a : Action) (value : List ℕ → ℤ) (own s t : Shown) (n : ℕ) (bs : List Bounds) (first : Grows s t) (second : Grows own t) where
+  ok-more : (f : Option StoreFault) (o : Result Bounds StoreFault) → slice_get m.actions n ≡ Some a → IfOk o (λ b. AreBounds m a value own b) → (f ≡ None → AreBackedUp m value s bs (take n m.actions))
+      → first_fault f o ≡ None → AreBackedUp m value t (with_bounds bs o) (take (n + 1) m.actions)
+  ok-more (Some e) o offered h before none = absurd (cc none)
+  ok-more None (Err e) offered h before none = absurd (cc none)
+  ok-more None (Ok b) offered h before none =
+      let near : n < length m.actions = slice_get_within m.actions n a offered in
+      let here : Some (get_or m.actions n a) ≡ Some a = sym (slice_get-get_or m.actions n a near) ∙ offered in
+      let same : get_or m.actions n a ≡ a = cc here in
+      let more : take (n + 1) m.actions ≡ take n m.actions ++ a ∷ [] = take_more m.actions n a near ∙ ap (λ c. take n m.actions ++ c ∷ []) same in
+      subst (AreBackedUp m value t (bs ++ b ∷ [])) (sym more)
+      (backed-push m value t bs (take n m.actions) b a (backed-grow m value s t bs (take n m.actions) first (before refl)) (bounds-grow m a value own t b second h))
+
+  full-more : (f : Option StoreFault) (o : Result Bounds StoreFault) → (f ≡ Some F.Full → s.full ≡ true) → (o ≡ Err F.Full → own.full ≡ true) → first_fault f o ≡ Some F.Full → t.full ≡ true
+  full-more (Some e) o before h is = first.full (before is)
+  full-more None (Ok b) before h is = absurd (cc is)
+  full-more None (Err e) before h is = let same : e ≡ F.Full = cc is in second.full (h (ap Err same))
+
+-- ---- joining
+
+-- the seats that one stands for which took another one over
+abbrev joined : StandingValue → StandingValue → StandingValue
+joined a b = record { table = a.table; stands = a.stands + b.stands; splits = a.splits + b.splits }
+
+abbrev pub stand : TableValue → ℕ → ℕ → StandingValue
+stand table stands splits = record { table = table; stands = stands; splits = splits }
+
+pub gathered-none : (g : GroveValue) (lanes : List Tables) (bounds : List Bounds) → Gathered g lanes bounds [] g lanes bounds None
+gathered-none g lanes bounds = record {
+  sizes_are = refl;
+  standing = let e : g.seat.mind.stands ≡ g.seat.mind.stands + 0 = omega arith in λ i. stand g.seat.table (e i) g.seat.mind.splits;
+  grows = grows-none (shown_of g);
+  fault_is = refl;
+  lanes_count = omega arith;
+  bounds_count = omega arith;
+  hold = λ x h k. h;
+  have = λ m value start x w first each can within run. subst (λ n. HaveRun m value start n (shown_of g) bounds None) (let e : first ≡ first + 0 = omega arith in e) run;
+}
+
+module _ (g : GroveValue) (lanes0 : List Tables) (bounds0 : List Bounds) (ys : List JobValue) (g1 : GroveValue) (lanes : List Tables) (bounds : List Bounds) (fault : Option StoreFault) (j : JobValue) (g2 : GroveValue)
+    (before : Gathered g lanes0 bounds0 ys g1 lanes bounds fault) (place : IsJobOf g.seat.table g.sizes j) (joins : Joins g1 j.grove g2) (sound : IsSound (shown_of g2)) (sizes : g2.sizes ≡ g1.sizes)
+    (held : HoldFor j.thawed (job_shown j) j.tables) where
+  longer : length (ys ++ j ∷ []) ≡ length ys + 1
+  longer = length-append ys (j ∷ [])
+
+  standing-more : standing_of g2 ≡ stand g.seat.table (g.seat.mind.stands + length (ys ++ j ∷ [])) g.seat.mind.splits
+  standing-more =
+      let both : joined (standing_of g1) (standing_of j.grove) ≡ joined (stand g.seat.table (g.seat.mind.stands + length ys) g.seat.mind.splits) (stand g.seat.table 1 0) = λ i. joined (before.standing i) (place.own i) in
+      let a : g.seat.mind.stands + length ys + 1 ≡ g.seat.mind.stands + length (ys ++ j ∷ []) = omega (arith, longer) in
+      let b : g.seat.mind.splits + 0 ≡ g.seat.mind.splits = omega arith in
+      joins.standing ∙ both ∙ (λ i. stand g.seat.table (a i) (b i))
+
+  hold-more : (x : Thawed) → All (HoldFor x (shown_of g)) lanes0 → All (λ (k : JobValue). k.thawed ≡ x) (ys ++ j ∷ []) → All (HoldFor x (shown_of g2)) (lanes ++ j.tables ∷ [])
+  hold-more x h own =
+      let front = before.hold x h (all-front (λ (k : JobValue). k.thawed ≡ x) ys j own) in
+      let last : j.thawed ≡ x = all-last (λ (k : JobValue). k.thawed ≡ x) ys j own in
+      let mine : HoldFor x (job_shown j) j.tables = subst (λ (z : Thawed). HoldFor z (job_shown j) j.tables) last held in
+      all-push (HoldFor x (shown_of g2)) lanes j.tables (hold-all x (shown_of g1) (shown_of g2) lanes joins.first front) (hold-keeps (job_shown j) (shown_of g2) (grows-keeps joins.second) x j.tables mine)
+
+  have-more : (m : Process) (value : List ℕ → ℤ) (start : Shown) (x : Thawed) (w : Entry) (first : ℕ) → EachFrom (HasRun g.seat.table (shown_of g) x w) first (ys ++ j ∷ []) → CanBackUp m value (shown_of g) x w
+      → first + length (ys ++ j ∷ []) ≤ length m.actions → HaveRun m value start first (shown_of g) bounds0 None → HaveRun m value start (first + length (ys ++ j ∷ [])) (shown_of g2) (with_bounds bounds j.outcome) (first_fault fault j.outcome)
+  have-more m value start x w first each can within run =
+      let P : ℕ → JobValue → Type 0 = HasRun g.seat.table (shown_of g) x w in
+      let n : ℕ = first + length ys in
+      let near : n < length m.actions = omega (arith, within, longer) in
+      let known = before.have m value start x w first (each-front P first ys j each) can (omega (arith, near)) run in
+      let own = each-last P first ys j each in
+      let some = some-action m.actions n near in
+      let backed : HasBackedUp m some.0 value j = own.backed m some.0 value can some.1 in
+      let fs : List Function = backup_functions m some.0 value in
+      let near-sizes : j.grove.sizes ≡ g1.sizes = place.sizes_are ∙ sym before.sizes_are in
+      let made : HasMade (shown_of g1) (shown_of g2) fs = record {
+        sound = sound;
+        grows = joins.first;
+        makes = joins.makes (test_trees g1.sizes fs) (λ r p. subst (λ (z : List ℕ). IsNodeOf ((job_shown j).tree r) (test_trees z fs)) near-sizes (backed.makes r p));
+      } in
+      let among : Among fs (all_backups m value) = subst (λ (a : Action). Among (backup_functions m a value) (all_backups m value)) (same-action m.actions n some.0 some.1) (among-flat (λ a. backup_functions m a value) m.actions n some.0 near) in
+      subst (λ k. HaveRun m value start k (shown_of g2) (with_bounds bounds j.outcome) (first_fault fault j.outcome)) (let e : n + 1 ≡ first + length (ys ++ j ∷ []) = omega (arith, longer) in e)
+      (record {
+        made = has-then among known.made made;
+        ok = ok-more m some.0 value (job_shown j) (shown_of g1) (shown_of g2) n bounds joins.first joins.second fault j.outcome some.1 backed.ok known.ok;
+        is_full = full-more m some.0 value (job_shown j) (shown_of g1) (shown_of g2) n bounds joins.first joins.second fault j.outcome known.is_full backed.full;
+      })
+    where
+      same-action : (actions : List Action) (k : ℕ) (a : Action) → slice_get actions k ≡ Some a → get_or actions k a ≡ a
+      same-action actions k a e =
+          let here : Some (get_or actions k a) ≡ Some a = sym (slice_get-get_or actions k a (slice_get_within actions k a e)) ∙ e in
+          cc here
+
+  pub gathered-more : Gathered g lanes0 bounds0 (ys ++ j ∷ []) g2 (lanes ++ j.tables ∷ []) (with_bounds bounds j.outcome) (first_fault fault j.outcome)
+  gathered-more = record {
+    sizes_are = sizes ∙ before.sizes_are;
+    standing = standing-more;
+    grows = grows-then before.grows joins.first;
+    fault_is = ap (λ f. first_fault f j.outcome) before.fault_is ∙ sym (fault-push None ys j);
+    lanes_count = omega (arith, length-append lanes (j.tables ∷ []), before.lanes_count, longer);
+    bounds_count = omega (arith, with-count bounds j.outcome, before.bounds_count, longer);
+    hold = hold-more;
+    have = have-more;
+  }

@@ -6,7 +6,7 @@ ghost use Rattle.spd_model.specs.Process.{Process};
 ghost use Rattle.spd_nodes.specs.Grove.{shown_of, standing_of, Joins};
 ghost use Rattle.spd_nodes.specs.declared.forest.StoreFault.TheVariants as F;
 ghost use Rattle.spd_nodes.specs.Made.{HasMade};
-ghost use Rattle.spd_nodes.specs.Shown.{Shown, Grows};
+ghost use Rattle.spd_nodes.specs.Shown.{Shown, IsSound, Grows};
 ghost use Rattle.spd_backup.specs.Keeping.{HoldAll};
 ghost use Rattle.spd_turn.specs.Jobs.{CanBackUp, IsBackupReady, HoldFor};
 ghost use Rattle.spd_turn.specs.Waves.{all_backups, AreBackedUp, EachFrom, IsDealt, IsJobOf, HaveRun, Gathered, first_fault, fault_in, fault_of, with_bounds};
@@ -41,6 +41,7 @@ fn join_job<'a>(grove: &mut Grove<'a>, job: BackupJob<'a>) -> (Tables, Result<Bo
     requires table { job.grove.seat.table ≡ grove.old.seat.table }
     requires sizes { job.grove.sizes ≡ grove.old.sizes }
     ensures joins { Joins grove.old job.entry.grove grove.new }
+    ensures sound { IsSound (shown_of grove.new) }
     ensures sizes { grove.new.sizes ≡ grove.old.sizes }
     ensures tables { result.0 ≡ job.entry.tables }
     ensures outcome { result.1 ≡ job.entry.outcome }
