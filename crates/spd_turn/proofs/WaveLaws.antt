@@ -237,3 +237,49 @@ module _ (g : GroveValue) (lanes0 : List Tables) (bounds0 : List Bounds) (ys : L
     hold = hold-more;
     have = have-more;
   }
+
+-- ---- a wave
+
+taken : {X : Type 0} (n : ℕ) (xs zs : List X) → length xs ≡ n → take n (xs ++ zs) ≡ xs
+taken zero [] zs e = refl
+taken zero (x ∷ xs) zs e = absurd (omega (arith, e))
+taken (suc n) [] zs e = absurd (omega (arith, e))
+taken (suc n) (x ∷ xs) zs e = ap (λ l. x ∷ l) (taken n xs zs (omega (arith, e)))
+
+-- jobs were dealt, and run in their places
+module _ (table : TableValue) (s : Shown) (x : Thawed) (w : Entry) (first : ℕ) (items js ks zs : List JobValue) (n : ℕ) (same : js ≡ items) (long : n ≡ length items) (longs : length ks ≡ length js)
+    (runs : (i : ℕ) (d : JobValue) → i < length js → RunsBackup (get_or js i d) (get_or ks i d)) (dealt : EachFrom (IsDealt table s x w) first items) where
+  are-jobs : take n (ks ++ zs) ≡ ks
+  are-jobs = taken n ks zs (longs ∙ ap length same ∙ sym long)
+
+  pub wave-ran : EachFrom (HasRun table s x w) first (take n (ks ++ zs))
+  wave-ran = subst (EachFrom (HasRun table s x w) first) (sym are-jobs) (all-ran table s x w first js ks longs runs (subst (EachFrom (IsDealt table s x w) first) (sym same) dealt))
+
+  pub wave-length : length (take n (ks ++ zs)) ≡ length items
+  wave-length = ap length are-jobs ∙ longs ∙ ap length same
+
+pub wave-jobs : (table : TableValue) (s : Shown) (x : Thawed) (w : Entry) (first : ℕ) (js : List JobValue) (t : TableValue) (sizes : List ℕ) → t ≡ table → sizes ≡ s.sizes → EachFrom (HasRun table s x w) first js → All (IsJobOf t sizes) js
+wave-jobs table s x w first js t sizes a b h =
+    each-all (HasRun table s x w) (IsJobOf t sizes) (λ i j r. subst (λ (p : TableValue × List ℕ). IsJobOf p.0 p.1 j) (sym (λ i. (a i, b i))) r.place) first js h
+
+pub wave-thawed : (table : TableValue) (s : Shown) (x : Thawed) (w : Entry) (first : ℕ) (js : List JobValue) → EachFrom (HasRun table s x w) first js → All (λ (j : JobValue). j.thawed ≡ x) js
+wave-thawed table s x w first js h = each-all (HasRun table s x w) (λ (j : JobValue). j.thawed ≡ x) (λ i j r. r.thawed_is) first js h
+
+-- the seat that jobs were split off shows the same, and their actions are backed up after they were joined
+pub wave-have : (old g g' : GroveValue) (lanes lanes' : List Tables) (bounds bounds' : List Bounds) (js : List JobValue) (fault f : Option StoreFault) (x : Thawed) (w : Entry) (first n : ℕ) → Gathered g lanes bounds js g' lanes' bounds' f → g.seat.table ≡ old.seat.table
+    → shown_of g ≡ shown_of old → length js ≡ n → fault ≡ f → first + n ≤ length x.rewards.items → EachFrom (HasRun old.seat.table (shown_of old) x w) first js → (m : Process) (value : List ℕ → ℤ) (start : Shown) → CanBackUp m value (shown_of old) x w
+    → HaveRun m value start first (shown_of old) bounds None → HaveRun m value start (first + n) (shown_of g') bounds' fault
+wave-have old g g' lanes lanes' bounds bounds' js fault f x w first n h table shows long same within each m value start can run =
+    let t = sym table in
+    let s = sym shows in
+    let ran = h.have m value start x w first (subst (λ (p : TableValue × Shown). EachFrom (HasRun p.0 p.1 x w) first js) (λ i. (t i, s i)) each) (subst (λ (z : Shown). CanBackUp m value z x w) s can)
+        (omega (arith, within, long, rewards-count can.thawed)) (subst (λ (z : Shown). HaveRun m value start first z bounds None) s run) in
+    subst (λ (p : ℕ × Option StoreFault). HaveRun m value start (first + p.0) (shown_of g') bounds' p.1) (λ i. (long i, sym same i)) ran
+
+-- there was no memory for a wave
+pub wave-none : (m : Process) (value : List ℕ → ℤ) (start : Shown) (first n : ℕ) (s t : Shown) (bounds : List Bounds) → t ≡ s → HaveRun m value start first s bounds None → HaveRun m value start (first + n) t bounds (Some F.Memory)
+wave-none m value start first n s t bounds e run = record {
+  made = subst (λ (z : Shown). HasMade start z (all_backups m value)) (sym e) run.made;
+  ok = λ k. absurd (cc k);
+  is_full = λ k. absurd (cc k);
+}
