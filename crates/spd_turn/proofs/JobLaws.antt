@@ -1,5 +1,5 @@
 -- One job, before its run and after it.
-use Rattle.std.proofs.Common.{◌≡◌, ℕ, List, length, get_or, refl, sym, ap, ◌∙◌, subst, Some, None, Ok, Err, true, false, inl, inr}
+use Rattle.std.proofs.Common.{◌≡◌, ℕ, List, sym, ap, ◌∙◌, subst, Some, Err, true, inl, inr}
 use Rattle.std.specs.Prelude.{ℤ, slice_get, Result, IfErr}
 use Rattle.std.proofs.lemmas.Bool.{true≢false}
 use Rattle.spd_cons.specs.Values.{TableValue}
@@ -8,8 +8,8 @@ use Rattle.spd_model.specs.declared.process.Action.{Action}
 use Rattle.spd_model.specs.Process.{Process}
 use Rattle.spd_nodes.specs.declared.forest.StoreFault.{StoreFault}
 use Rattle.spd_nodes.specs.declared.forest.StoreFault.TheVariants as F
-use Rattle.spd_nodes.specs.Grove.{KeepsTrees, standing_of}
-use Rattle.spd_nodes.specs.Shown.{Shown, Grows, FaultsAt}
+use Rattle.spd_nodes.specs.Grove.{standing_of}
+use Rattle.spd_nodes.specs.Shown.{Shown, FaultsAt}
 use Rattle.spd_nodes.specs.States.{test_trees}
 use Rattle.spd_nodes.specs.Trees.{IsNodeOf}
 use Rattle.spd_backup.specs.declared.backing.Bounds.{Bounds}

@@ -1,5 +1,5 @@
 -- What a forest has is left to one that shows the same trees, whatever either has published.
-use Rattle.std.proofs.Common.{◌≡◌, ℕ, ◌<◌, Bool, true, false, List, [], ◌∷◌, length, map, get_or, refl, sym, ◌∙◌, subst, Some, None}
+use Rattle.std.proofs.Common.{◌≡◌, ℕ, true, false, List, [], ◌∷◌, map, get_or, refl, sym, ◌∙◌, subst, Some, None}
 use Rattle.std.specs.Prelude.{Option, IfSome, ℤ}
 use Rattle.std.specs.List.{AllZip}
 use Rattle.std.proofs.lemmas.Bool.{true≢false}
@@ -10,13 +10,13 @@ use Rattle.spd_model.specs.Process.{Process}
 use Rattle.spd_model.specs.States.{IsState}
 use Rattle.spd_nodes.specs.Grove.{KeepsTrees}
 use Rattle.spd_nodes.specs.Levels.{slots}
-use Rattle.spd_nodes.specs.Shown.{Shown, Grows, IsWhole, StandsFor, meaning}
+use Rattle.spd_nodes.specs.Shown.{Shown, Grows, StandsFor, meaning}
 use Rattle.spd_nodes.specs.States.{Function, function_of}
 use Rattle.spd_nodes.specs.Trees.{Tree, IsFrom}
 use Rattle.spd_nodes.proofs.CallerLemmas.{stands-grows}
-use Rattle.spd_apply.specs.Rules.{IsAnswer, HoldsAnswers}
+use Rattle.spd_apply.specs.Rules.{HoldsAnswers}
 use Rattle.spd_apply.proofs.CallerLemmas.{answers-grow}
-use Rattle.spd_gather.specs.Lists.{AreKnown, IsListAnswer, HoldsRows}
+use Rattle.spd_gather.specs.Lists.{AreKnown, HoldsRows}
 use Rattle.spd_gather.proofs.CallerLemmas.{known-stay}
 use Rattle.spd_restrict.specs.Primed.{TestsNoPrimed, primed}
 use Rattle.spd_weigh.specs.Leaves.{HasValues}
@@ -28,8 +28,8 @@ use Rattle.spd_backup.specs.declared.tables.SumTables.{SumTables}
 use Rattle.spd_backup.specs.declared.tables.Tables.{Tables}
 use Rattle.spd_backup.specs.declared.tables.WayTables.{WayTables}
 use Rattle.spd_backup.specs.declared.thawed.Thawed.{Thawed}
-use Rattle.spd_backup.specs.Keeping.{IsSummed, HoldVariable, HoldEachSum, HoldWay, HoldAll, IsPrimed}
-use Rattle.spd_backup.specs.Thawing.{IsThawedOf, HasNumbers}
+use Rattle.spd_backup.specs.Keeping.{IsSummed, HoldVariable, HoldWay, IsPrimed}
+use Rattle.spd_backup.specs.Thawing.{IsThawedOf}
 use Rattle.spd_turn.specs.Jobs.{CanBackUp, HoldFor}
 
 -- the same forest, with nothing published and not full

@@ -1,7 +1,5 @@
 -- Jobs that were dealt, and what their joined seats show.
-use Rattle.std.proofs.Common.{◌≡◌, ◌⊎◌, ℕ, zero, suc, ◌+◌, ◌<◌, ◌≤◌, List, [], ◌∷◌, ◌++◌, length, map, flat_map, get_or, take, refl, sym, ap, ◌∙◌, subst, arith, inl, inr, Option, Some, None, Ok, Err, Result, IfOk, IfErr, All, true, false, ℤ, slice_get}
-use Rattle.std.specs.List.{AllZip}
-use Rattle.std.proofs.lemmas.Bool.{true≢false}
+use Rattle.std.proofs.Common.{◌≡◌, ℕ, zero, suc, ◌+◌, ◌<◌, ◌≤◌, List, [], ◌∷◌, ◌++◌, length, map, get_or, take, refl, sym, ap, ◌∙◌, subst, arith, Option, Some, None, Ok, Err, Result, IfOk, All, true, ℤ, slice_get}
 use Rattle.std.proofs.lemmas.List.{length-map, length-append, take_more, take_all}
 use Rattle.std.proofs.lemmas.List.Elements.{All-nil, All-cons, All-head, All-tail, All-append}
 use Rattle.std.proofs.lemmas.Option.{slice_get-get_or, slice_get_within}
@@ -13,19 +11,18 @@ use Rattle.spd_nodes.specs.declared.forest.StoreFault.{StoreFault}
 use Rattle.spd_nodes.specs.declared.forest.StoreFault.TheVariants as F
 use Rattle.spd_nodes.specs.Grove.{GroveValue, KeepsTrees, Joins, shown_of, standing_of, StandingValue}
 use Rattle.spd_nodes.specs.Made.{HasMade}
-use Rattle.spd_nodes.specs.Shown.{Shown, IsSound, Grows, StandsFor}
+use Rattle.spd_nodes.specs.Shown.{Shown, IsSound, Grows}
 use Rattle.spd_nodes.specs.States.{Function, test_trees}
 use Rattle.spd_nodes.specs.Trees.{IsNodeOf}
-use Rattle.spd_nodes.proofs.CallerLemmas.{Among, among-flat, grows-none, grows-then, has-then, makes-within, stand-length, stands-grows}
-use Rattle.spd_weigh.specs.declared.way.Way.{Way}
+use Rattle.spd_nodes.proofs.CallerLemmas.{Among, among-flat, grows-none, grows-then, has-none, has-then, stand-length, stands-grows}
 use Rattle.spd_build.specs.Functions.{reward}
 use Rattle.spd_backup.specs.declared.backing.Bounds.{Bounds}
 use Rattle.spd_backup.specs.declared.tables.Tables.{Tables}
 use Rattle.spd_backup.specs.declared.thawed.Thawed.{Thawed}
-use Rattle.spd_backup.specs.Expected.{AreBounds, AreExpected, backup_functions}
+use Rattle.spd_backup.specs.Expected.{AreBounds, backup_functions}
 use Rattle.spd_backup.specs.Thawing.{IsThawedOf}
 use Rattle.spd_turn.specs.Jobs.{CanBackUp, IsBackupReady, HoldFor, JobValue, IsReadyJob, RunsBackup, job_shown}
-use Rattle.spd_turn.specs.Waves.{all_backups, AreBackedUp, EachFrom, IsSplitOff, IsDealt, IsJobOf, HasBackedUp, HasRun, HaveRun, Gathered, first_fault, fault_in, fault_of, with_bounds}
+use Rattle.spd_turn.specs.Waves.{all_backups, AreBackedUp, EachFrom, IsDealt, IsJobOf, HasBackedUp, HasRun, HaveRun, Gathered, first_fault, fault_of, with_bounds}
 use Rattle.spd_turn.proofs.SplitLaws.{can-keeps, hold-keeps, grows-keeps}
 use Rattle.spd_turn.proofs.JobLaws.{dealt-ran}
 
@@ -283,3 +280,22 @@ wave-none m value start first n s t bounds e run = record {
   ok = λ k. absurd (cc k);
   is_full = λ k. absurd (cc k);
 }
+
+-- no action is backed up yet
+pub have-none : (m : Process) (value : List ℕ → ℤ) (s : Shown) (bounds : List Bounds) → IsSound s → bounds ≡ [] → HaveRun m value s 0 s bounds None
+have-none m value s bounds sound e = record {
+  made = has-none s sound (all_backups m value);
+  ok = λ k. subst (λ (bs : List Bounds). AreBackedUp m value s bs (take 0 m.actions)) (sym e) tt;
+  is_full = λ k. absurd (cc k);
+}
+
+-- a wave after the actions before it
+pub have-wave : (old s t : Shown) (x : Thawed) (w : Entry) (first n : ℕ) (bounds bounds' : List Bounds) (f : Option StoreFault) → Grows old s
+    → ((m : Process) (value : List ℕ → ℤ) (start : Shown) → CanBackUp m value s x w → HaveRun m value start first s bounds None → HaveRun m value start (first + n) t bounds' f)
+    → ((m : Process) (value : List ℕ → ℤ) → CanBackUp m value old x w → HaveRun m value old first s bounds None)
+    → (m : Process) (value : List ℕ → ℤ) → CanBackUp m value old x w → HaveRun m value old (first + n) t bounds' f
+have-wave old s t x w first n bounds bounds' f g wave before m value can = wave m value old (can-keeps old s (grows-keeps g) m value x w can) (before m value can)
+
+-- all actions are backed up
+pub have-all : (m : Process) (value : List ℕ → ℤ) (old s : Shown) (x : Thawed) (w : Entry) (n : ℕ) (bounds : List Bounds) → CanBackUp m value old x w → length x.rewards.items ≤ n → HaveRun m value old n s bounds None → AreBackedUp m value s bounds m.actions
+have-all m value old s x w n bounds can all h = subst (AreBackedUp m value s bounds) (take_all n m.actions (omega (arith, all, rewards-count can.thawed))) (h.ok refl)

@@ -14,7 +14,7 @@ ghost use Rattle.spd_turn.specs.Waves.{all_backups, AreBackedUp, EachFrom, IsDea
 use crate::job::BackupJob;
 use spd_apply::OpFault;
 use spd_backup::{Bounds, Tables, Thawed};
-use spd_nodes::{Grove, Ref};
+use spd_nodes::{Forest, Grove, Ref};
 use spd_tasks::{Gate, run_jobs};
 use std::alloc::{AllocError, Global};
 use std::thread::Threads;
@@ -255,6 +255,7 @@ pub fn backup_actions<'a, G: Gate, R: Threads + Sync>(
     ensures ok { IfOk result (λ v. (m : Process) (value : List ℕ → ℤ) → CanBackUp m value (shown_of grove.old) thawed.now w → AreBackedUp m value (shown_of grove.new) v.items m.actions) }
     ensures full { IfErr result (λ e. e ≡ F.Full → (shown_of grove.new).full ≡ true) }
 {
+    let _ = grove.layout();
     let actions = thawed.rewards.len();
     let mut bounds = match Vec::with_capacity(alloc, actions) {
         Ok(bounds) => bounds,

@@ -1,8 +1,8 @@
-use Rattle.std.proofs.Common.{◌≡◌, ℕ, List, [], length, All, drop, Err, Some, None, sym, ap, ◌∙◌, subst, refl}
+use Rattle.std.proofs.Common.{length, All, drop, Some, None, sym, ap, ◌∙◌, subst, refl}
 use Rattle.std.proofs.lemmas.List.Elements.{All-nil}
 use Rattle.spd_model.proofs.CallerLemmas.Results.{err_is}
 use Rattle.spd_nodes.specs.Grove.{StandingValue, shown_of}
-use Rattle.spd_nodes.specs.Shown.{Shown, Grows}
+use Rattle.spd_nodes.specs.Shown.{Grows}
 use Rattle.spd_nodes.proofs.CallerLemmas.{grows-none}
 use Rattle.spd_turn.specs.Jobs.{HoldFor}
 use Rattle.spd_turn.specs.Waves.{fault_in}

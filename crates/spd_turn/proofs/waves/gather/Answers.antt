@@ -1,19 +1,20 @@
 use Rattle.std.proofs.Common.{◌≡◌, List, [], ◌∷◌, ◌++◌, Option, length, sym, ap, ◌∙◌, subst}
 use Rattle.std.specs.Vec.Iter.{into_iter_len}
 use Rattle.std.proofs.lemmas.Iterator.Adapters.{YieldsList-from_vec}
-use Rattle.std.proofs.lemmas.Iterator.Consumers.{YieldsList-turn, YieldsList-end}
+use Rattle.std.proofs.lemmas.Iterator.Consumers.{YieldsList-turn}
 use Rattle.spd_nodes.specs.declared.forest.StoreFault.{StoreFault}
 use Rattle.spd_backup.specs.declared.backing.Bounds.{Bounds}
 use Rattle.spd_backup.specs.declared.tables.Tables.{Tables}
 use Rattle.spd_turn.specs.Waves.{Gathered, IsJobOf, first_fault, with_bounds}
-use Rattle.spd_turn.proofs.WaveLaws.{gathered-more, gathered-none}
+use Rattle.spd_turn.proofs.WaveLaws.{gathered-more}
 use Rattle.spd_turn.proofs.waves.gather.Goals as goal
 
 pub loop-job-preserved : goal.loop-job-preserved
 loop-job-preserved c =
     let gives = c.into_iter-job-iterator.ensures.into_iter_gives in
     let long : into_iter_len c.into_iter-job-iterator.result ≡ length c.args.jobs.items = gives.1 ∙ c.args.jobs.ok.0 in
-    let turn = YieldsList-turn (YieldsList-from_vec c.args.jobs.items gives.0 long) c.loop-job.yielded _ c.loop-job.yielded_by _ _ c.in-Some.job c.in-Some.is c.next.ensures.steps in
+    let list = YieldsList-from_vec {s = c.into_iter-job-iterator.result} c.args.jobs.items gives.0 long in
+    let turn = YieldsList-turn list c.loop-job.yielded c.loop-job.job-iterator c.loop-job.yielded_by c.next.result c.next.new.self c.in-Some.job c.in-Some.is c.next.ensures.steps in
     let g = c.args.grove.now in
     let place : IsJobOf g.seat.table g.sizes c.in-Some.job = subst (IsJobOf g.seat.table g.sizes) (sym turn.1) (c.requires.jobs (length c.loop-job.yielded) c.in-Some.job turn.0) in
     let more = gathered-more g c.args.lanes.now.items c.args.bounds.now.items c.loop-job.yielded c.loop-job.grove c.loop-job.lanes.items c.loop-job.bounds.items c.loop-job.fault c.in-Some.job c.join_job-tables.new.grove
