@@ -270,7 +270,7 @@ wave-have old g g' lanes lanes' bounds bounds' js fault f x w first n h table sh
     let t = sym table in
     let s = sym shows in
     let ran = h.have m value start x w first (subst (λ (p : TableValue × Shown). EachFrom (HasRun p.0 p.1 x w) first js) (λ i. (t i, s i)) each) (subst (λ (z : Shown). CanBackUp m value z x w) s can)
-        (omega (arith, within, long, rewards-count can.thawed)) (subst (λ (z : Shown). HaveRun m value start first z bounds None) s run) in
+    (omega (arith, within, long, rewards-count can.thawed)) (subst (λ (z : Shown). HaveRun m value start first z bounds None) s run) in
     subst (λ (p : ℕ × Option StoreFault). HaveRun m value start (first + p.0) (shown_of g') bounds' p.1) (λ i. (long i, sym same i)) ran
 
 -- there was no memory for a wave

@@ -7,5 +7,4 @@
 mod job;
 mod waves;
 
-pub use job::BackupJob;
 pub use waves::backup_actions;

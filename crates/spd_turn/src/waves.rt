@@ -229,10 +229,12 @@ fn back_up_wave<'a, G: Gate, R: Threads + Sync>(
 
 /// The bounds of all actions where the value `w` follows, in file order. Actions go in waves of as many jobs as there are workers, each
 /// with a seat of its own, which are joined in file order after their wave, also after a fault. A lane's tables of answers, each of at
-/// most `memo_size`, go on to the next wave. After a wave with a fault none follows, so the fault of the first action in file order is
-/// told; Full comes only where the joined seat is full. The gate is told of each action by its number. With one worker all runs in the
-/// caller. The seat can be split once for each action, and is joined with all of them: it stands for what it stood for and could be
-/// split into.
+/// most `memo_size`, go on to the next wave. The gate is told of each action by its number, and of how many entries the action's own
+/// seat has published. With one worker all runs in the caller.
+///
+/// The seat can be split once for each action. Afterwards, whatever is answered, it is joined with all that were split off: it stands for
+/// as many seats, together with those that it may still be split into. After a wave with a fault none follows, so the fault of the first
+/// action in file order is told. Full comes only where the joined seat is full, and Memory may come at any time.
 pub fn backup_actions<'a, G: Gate, R: Threads + Sync>(
     rt: &R,
     alloc: Global,
@@ -250,6 +252,7 @@ pub fn backup_actions<'a, G: Gate, R: Threads + Sync>(
     ensures sizes { grove.new.sizes ≡ grove.old.sizes }
     ensures table { grove.new.seat.table ≡ grove.old.seat.table }
     ensures shares { shares grove.new.seat.mind ≡ shares grove.old.seat.mind }
+    ensures splits { OnOk result (grove.new.seat.mind.splits + length thawed.now.rewards.items ≡ grove.old.seat.mind.splits) }
     // Whatever is answered, the forest is sound, shows all that it showed, and published nodes of the backups' functions alone.
     ensures made { (m : Process) (value : List ℕ → ℤ) → CanBackUp m value (shown_of grove.old) thawed.now w → HasMade (shown_of grove.old) (shown_of grove.new) (all_backups m value) }
     ensures ok { IfOk result (λ v. (m : Process) (value : List ℕ → ℤ) → CanBackUp m value (shown_of grove.old) thawed.now w → AreBackedUp m value (shown_of grove.new) v.items m.actions) }
@@ -269,17 +272,7 @@ pub fn backup_actions<'a, G: Gate, R: Threads + Sync>(
     while first < actions {
         lanes.truncate(actions - first);
         let count = lanes.len();
-        lanes = back_up_wave(
-            rt,
-            alloc,
-            gate,
-            grove,
-            thawed,
-            w,
-            first,
-            lanes,
-            &mut bounds,
-        )?;
+        lanes = back_up_wave(rt, alloc, gate, grove, thawed, w, first, lanes, &mut bounds)?;
         first += count;
     }
     Ok(bounds)

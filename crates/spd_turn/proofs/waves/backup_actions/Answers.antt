@@ -39,14 +39,14 @@ back_up_wave-requires-clause-ready g c κs within = ready-keeps (grows-keeps c.l
 pub returns-in_err-lanes-clause-made : goal.returns-in_err-lanes-clause-made
 returns-in_err-lanes-clause-made g c = λ m value can.
     let run = have-wave (shown_of c.args.grove.now) (shown_of c.loop-first.grove) (shown_of c.back_up_wave.new.grove) c.args.thawed.now c.args.w c.loop-first.first (length c.truncate.new.self.items) c.loop-first.bounds.items c.back_up_wave.new.bounds.items
-        (Some c.in_err-lanes.field-0.0) c.loop-first.invariant.grows c.in_err-lanes.ensures.have c.loop-first.invariant.have m value can in
+    (Some c.in_err-lanes.field-0.0) c.loop-first.invariant.grows c.in_err-lanes.ensures.have c.loop-first.invariant.have m value can in
     run.made
 
 pub returns-in_err-lanes-clause-full : goal.returns-in_err-lanes-clause-full
 returns-in_err-lanes-clause-full g c =
     let r = c.requires.ready in
     let run = have-wave (shown_of c.args.grove.now) (shown_of c.loop-first.grove) (shown_of c.back_up_wave.new.grove) c.args.thawed.now c.args.w c.loop-first.first (length c.truncate.new.self.items) c.loop-first.bounds.items c.back_up_wave.new.bounds.items
-        (Some c.in_err-lanes.field-0.0) c.loop-first.invariant.grows c.in_err-lanes.ensures.have c.loop-first.invariant.have r.process r.value r.can in
+    (Some c.in_err-lanes.field-0.0) c.loop-first.invariant.grows c.in_err-lanes.ensures.have c.loop-first.invariant.have r.process r.value r.can in
     subst (λ r. IfErr r (λ e. e ≡ F.Full → c.back_up_wave.new.grove.seat.mind.ended ≡ true)) (sym (err_is c.from_residual.result c.in_err-lanes.field-0.0 c.from_residual.ensures.1)) (λ e. run.is_full (ap Some e))
 
 pub loop-first-preserved : goal.loop-first-preserved

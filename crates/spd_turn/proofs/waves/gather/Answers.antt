@@ -18,7 +18,7 @@ loop-job-preserved c =
     let g = c.args.grove.now in
     let place : IsJobOf g.seat.table g.sizes c.in-Some.job = subst (IsJobOf g.seat.table g.sizes) (sym turn.1) (c.requires.jobs (length c.loop-job.yielded) c.in-Some.job turn.0) in
     let more = gathered-more g c.args.lanes.now.items c.args.bounds.now.items c.loop-job.yielded c.loop-job.grove c.loop-job.lanes.items c.loop-job.bounds.items c.loop-job.fault c.in-Some.job c.join_job-tables.new.grove
-        c.loop-job.invariant.gathered place c.join_job-tables.ensures.joins c.join_job-tables.ensures.sound c.join_job-tables.ensures.sizes c.join_job-tables.ensures.hold in
+    c.loop-job.invariant.gathered place c.join_job-tables.ensures.joins c.join_job-tables.ensures.sound c.join_job-tables.ensures.sizes c.join_job-tables.ensures.hold in
     let outcome = c.join_job-tables.ensures.outcome in
     let lanes : c.push_reserved.new.self.items ≡ c.loop-job.lanes.items ++ c.in-Some.job.tables ∷ [] = c.push_reserved.ensures.items ∙ ap (λ (t : Tables). c.loop-job.lanes.items ++ t ∷ []) c.join_job-tables.ensures.tables in
     let bounds : c.noted-fault.new.bounds.items ≡ with_bounds c.loop-job.bounds.items c.in-Some.job.outcome = c.noted-fault.ensures.bounds ∙ ap (with_bounds c.loop-job.bounds.items) outcome in

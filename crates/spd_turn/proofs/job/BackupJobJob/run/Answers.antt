@@ -3,7 +3,6 @@ use Rattle.spd_turn.specs.Jobs.{JobValue, RunsBackup}
 use Rattle.spd_turn.proofs.JobLaws.{job-runs, job-ready}
 use Rattle.spd_turn.proofs.job.BackupJobJob.run.Goals as goal
 
-
 -- the job before its run, and after it
 abbrev before : goal.After-self-1 → JobValue
 before c = record { grove = c.self.inside.grove; thawed = c.self.inside.thawed.now; w = c.self.inside.w; action = c.self.inside.action; tables = c.self.inside.tables; outcome = c.self.inside.outcome }
