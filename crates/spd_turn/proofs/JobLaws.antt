@@ -15,14 +15,10 @@ use Rattle.spd_nodes.specs.Trees.{IsNodeOf}
 use Rattle.spd_backup.specs.declared.backing.Bounds.{Bounds}
 use Rattle.spd_backup.specs.declared.thawed.Thawed.{Thawed}
 use Rattle.spd_backup.specs.Expected.{BacksUp, backup_functions}
-use Rattle.spd_backup.specs.Thawing.{IsThawed, HasAction, HasNumbers}
+use Rattle.spd_backup.specs.Thawing.{HasAction, HasNumbers}
 use Rattle.spd_turn.specs.Jobs.{CanBackUp, HoldFor, JobValue, job_shown, IsReadyJob, RunsBackup}
 use Rattle.spd_turn.specs.Waves.{IsDealt, HasRun, HasBackedUp}
 use Rattle.spd_turn.proofs.SplitLaws.{can-keeps, grows-keeps}
-
--- the parts of a process that has the job's action
-pub job-thawed : (j : JobValue) → IsReadyJob j → IsThawed (job_shown j) j.thawed j.action
-job-thawed j is = record { process = is.process; chosen = is.chosen; has = record { thawed = is.can.thawed; offered = is.offered } }
 
 -- what a backup of a job's action makes
 abbrev pub Backs : JobValue → JobValue → Type 0

@@ -14,7 +14,7 @@ use Rattle.spd_nodes.specs.Made.{HasMade}
 use Rattle.spd_nodes.specs.Shown.{Shown, IsSound, Grows}
 use Rattle.spd_nodes.specs.States.{Function, test_trees}
 use Rattle.spd_nodes.specs.Trees.{IsNodeOf}
-use Rattle.spd_nodes.proofs.CallerLemmas.{Among, among-flat, grows-none, grows-then, has-none, has-then, stand-length, stands-grows}
+use Rattle.spd_nodes.proofs.CallerLemmas.{Among, among-flat, grows-then, has-none, has-then, stand-length, stands-grows}
 use Rattle.spd_build.specs.Functions.{reward}
 use Rattle.spd_backup.specs.declared.backing.Bounds.{Bounds}
 use Rattle.spd_backup.specs.declared.tables.Tables.{Tables}
@@ -161,18 +161,6 @@ joined a b = record { table = a.table; stands = a.stands + b.stands; splits = a.
 abbrev pub stand : TableValue → ℕ → ℕ → StandingValue
 stand table stands splits = record { table = table; stands = stands; splits = splits }
 
-pub gathered-none : (g : GroveValue) (lanes : List Tables) (bounds : List Bounds) → Gathered g lanes bounds [] g lanes bounds None
-gathered-none g lanes bounds = record {
-  sizes_are = refl;
-  standing = let e : g.seat.mind.stands ≡ g.seat.mind.stands + 0 = omega arith in λ i. stand g.seat.table (e i) g.seat.mind.splits;
-  grows = grows-none (shown_of g);
-  fault_is = refl;
-  lanes_count = omega arith;
-  bounds_count = omega arith;
-  hold = λ x h k. h;
-  have = λ m value start x w first each can within run. subst (λ n. HaveRun m value start n (shown_of g) bounds None) (let e : first ≡ first + 0 = omega arith in e) run;
-}
-
 module _ (g : GroveValue) (lanes0 : List Tables) (bounds0 : List Bounds) (ys : List JobValue) (g1 : GroveValue) (lanes : List Tables) (bounds : List Bounds) (fault : Option StoreFault) (j : JobValue) (g2 : GroveValue)
     (before : Gathered g lanes0 bounds0 ys g1 lanes bounds fault) (place : IsJobOf g.seat.table g.sizes j) (joins : Joins g1 j.grove g2) (sound : IsSound (shown_of g2)) (sizes : g2.sizes ≡ g1.sizes)
     (held : HoldFor j.thawed (job_shown j) j.tables) where
@@ -272,14 +260,6 @@ wave-have old g g' lanes lanes' bounds bounds' js fault f x w first n h table sh
     let ran = h.have m value start x w first (subst (λ (p : TableValue × Shown). EachFrom (HasRun p.0 p.1 x w) first js) (λ i. (t i, s i)) each) (subst (λ (z : Shown). CanBackUp m value z x w) s can)
     (omega (arith, within, long, rewards-count can.thawed)) (subst (λ (z : Shown). HaveRun m value start first z bounds None) s run) in
     subst (λ (p : ℕ × Option StoreFault). HaveRun m value start (first + p.0) (shown_of g') bounds' p.1) (λ i. (long i, sym same i)) ran
-
--- there was no memory for a wave
-pub wave-none : (m : Process) (value : List ℕ → ℤ) (start : Shown) (first n : ℕ) (s t : Shown) (bounds : List Bounds) → t ≡ s → HaveRun m value start first s bounds None → HaveRun m value start (first + n) t bounds (Some F.Memory)
-wave-none m value start first n s t bounds e run = record {
-  made = subst (λ (z : Shown). HasMade start z (all_backups m value)) (sym e) run.made;
-  ok = λ k. absurd (cc k);
-  is_full = λ k. absurd (cc k);
-}
 
 -- no action is backed up yet
 pub have-none : (m : Process) (value : List ℕ → ℤ) (s : Shown) (bounds : List Bounds) → IsSound s → bounds ≡ [] → HaveRun m value s 0 s bounds None
