@@ -231,6 +231,10 @@ taken zero (x ∷ xs) zs e = absurd (omega (arith, e))
 taken (suc n) [] zs e = absurd (omega (arith, e))
 taken (suc n) (x ∷ xs) zs e = ap (λ l. x ∷ l) (taken n xs zs (omega (arith, e)))
 
+-- the seat that others were split off is one of the same table
+pub table-kept : (g old : GroveValue) (n : ℕ) → standing_of g ≡ stand old.seat.table old.seat.mind.stands n → g.seat.table ≡ old.seat.table
+table-kept g old n e = ap (λ (z : StandingValue). z.table) e
+
 -- jobs were dealt, and run in their places
 module _ (table : TableValue) (s : Shown) (x : Thawed) (w : Entry) (first : ℕ) (items js ks zs : List JobValue) (n : ℕ) (same : js ≡ items) (long : n ≡ length items) (longs : length ks ≡ length js)
     (runs : (i : ℕ) (d : JobValue) → i < length js → RunsBackup (get_or js i d) (get_or ks i d)) (dealt : EachFrom (IsDealt table s x w) first items) where
