@@ -6,52 +6,23 @@ use Rattle.std.proofs.lemmas.Option.{get_or_from_slice_get}
 use Rattle.spd_cons_core.specs.declared.key.Entry.{Entry}
 use Rattle.spd_model.specs.declared.process.Action.{Action}
 use Rattle.spd_model.specs.Process.{Process}
-use Rattle.spd_model.specs.States.{IsState}
 use Rattle.spd_nodes.specs.declared.forest.StoreFault.{StoreFault}
 use Rattle.spd_nodes.specs.declared.forest.StoreFault.TheVariants as F
-use Rattle.spd_nodes.specs.Levels.{slots}
 use Rattle.spd_nodes.specs.Made.{HasMade}
 use Rattle.spd_nodes.specs.Shown.{Shown, IsSound, Grows}
-use Rattle.spd_nodes.specs.States.{function_of}
-use Rattle.spd_nodes.specs.Trees.{Tree, IsFrom}
-use Rattle.spd_nodes.proofs.CallerLemmas.{Among, all-out, among-flat, fault-wider, has-none, has-then, stand-grow, stand-length, stands-grows}
-use Rattle.spd_restrict.specs.Primed.{TestsNoPrimed}
+use Rattle.spd_nodes.proofs.CallerLemmas.{Among, all-out, among-flat, fault-wider, has-none, has-then, stand-length, stands-grows}
 use Rattle.spd_weigh.specs.declared.way.Way.{Way}
-use Rattle.spd_weigh.specs.Leaves.{HasValues}
-use Rattle.spd_build.specs.Functions.{all_weights, reward}
+use Rattle.spd_build.specs.Functions.{reward}
 use Rattle.spd_backup.specs.declared.backing.Bounds.{Bounds}
 use Rattle.spd_backup.specs.declared.thawed.Thawed.{Thawed}
 use Rattle.spd_backup.specs.Expected.{backup_functions, AreBounds, AreExpected, BacksUp}
-use Rattle.spd_backup.specs.Thawing.{IsThawed, IsThawedOf, HasAction}
-use Rattle.spd_turn.specs.Backups.{all_backups, AreBackedUp, BacksUpAll, CanBackUp, HaveBackedUp}
+use Rattle.spd_backup.specs.Thawing.{IsThawed, HasAction}
+use Rattle.spd_turn.specs.Jobs.{CanBackUp}
+use Rattle.spd_turn.specs.Waves.{all_backups, AreBackedUp}
+use Rattle.spd_turn.specs.Backups.{BacksUpAll, HaveBackedUp}
+use Rattle.spd_turn.proofs.SplitLaws.{can-keeps, grows-keeps}
 
 -- ---- a forest that grew
-
-thawed-grows : (m : Process) (s t : Shown) (x : Thawed) → Grows s t → IsThawedOf m s x → IsThawedOf m t x
-thawed-grows m s t x g h = record {
-  law = h.law;
-  valid = h.valid;
-  layout = g.sizes ∙ h.layout;
-  own = h.own;
-  discount = h.discount;
-  weights = stand-grow g x.weights.items (all_weights m) h.weights;
-  rewards = stand-grow g x.rewards.items (map (reward m) m.actions) h.rewards;
-}
-
--- what a backup reads is there
-pub can-grows : (m : Process) (value : List ℕ → ℤ) (s t : Shown) (x : Thawed) (w : Entry) → Grows s t → CanBackUp m value s x w → CanBackUp m value t x w
-can-grows m value s t x w g h =
-    let tree : t.tree w ≡ s.tree w = g.trees w h.known in
-    record {
-      thawed = thawed-grows m s t x g h.thawed;
-      known = g.knows w h.known;
-      whole = subst (λ (p : List ℕ × Tree). IsFrom (slots p.0) 0 0 p.1) (sym (λ i. (g.sizes i, tree i))) h.whole;
-      plain = subst (λ (p : List ℕ × Tree). TestsNoPrimed p.0 p.1) (sym (λ i. (g.sizes i, tree i))) h.plain;
-      values = subst (λ (p : List ℕ × Tree). HasValues p.0 (function_of p.0 p.1)) (sym (λ i. (g.sizes i, tree i))) h.values;
-      numbers = record {
-        at = λ y st. (λ i. function_of (g.sizes i) (tree i) y y) ∙ h.numbers.at y (subst (λ (z : List ℕ). IsState z y) g.sizes st);
-      };
-    }
 
 expected-grows : (way : Way) (m : Process) (a : Action) (value : List ℕ → ℤ) (s t : Shown) (n : ℕ) → Grows s t → AreExpected way m a value s n → AreExpected way m a value t n
 expected-grows way m a value s t n g h = record { each = λ i b. record { ref = (h.each i b).ref; stands = stands-grows g (h.each i b).stands } }
@@ -84,7 +55,7 @@ module _ (m : Process) (value : List ℕ → ℤ) (s : Shown) (x : Thawed) (w : 
 
   module _ (i : ℕ) (t : Shown) (bs : List Bounds) (h : HaveBackedUp m value s i t bs) where
     pub can-then : CanBackUp m value t x w
-    can-then = can-grows m value s t x w h.made.grows can
+    can-then = can-keeps s t (grows-keeps h.made.grows) m value x w can
 
     module _ (near : i < length x.rewards.items) where
       pub chosen : (a : Action) × (slice_get m.actions i ≡ Some a)

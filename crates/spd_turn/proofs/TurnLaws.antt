@@ -20,7 +20,7 @@ use Rattle.spd_backup.specs.declared.backing.Bounds.{Bounds}
 use Rattle.spd_backup.specs.Expected.{bound}
 use Rattle.spd_backup.specs.FromBuilt.{process_functions}
 use Rattle.spd_policy.specs.Best.{lows_of, highs_of, AreBoundsOf}
-use Rattle.spd_turn.specs.Backups.{all_backups, AreBackedUp}
+use Rattle.spd_turn.specs.Waves.{all_backups, AreBackedUp}
 use Rattle.spd_turn.specs.Turn.{finish_functions, present_value, turn_functions, value_of_turn, IsTurnOf}
 
 -- ---- the functions of a turn

@@ -23,7 +23,7 @@ use Rattle.spd_policy.specs.Best.{best_functions, lower_bounds, upper_bounds, Ar
 use Rattle.spd_residual.specs.Residual.{gaps_of, residual_functions, IsResidualOf}
 use Rattle.spd_ranges.specs.Merging.{turn_pairs, turn_ranges, turn_values}
 use Rattle.spd_turn.specs.declared.ending.Finished.{Finished}
-use Rattle.spd_turn.specs.Backups.{all_backups}
+use Rattle.spd_turn.specs.Waves.{all_backups}
 
 -- ---- the functions of a turn
 

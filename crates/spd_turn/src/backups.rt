@@ -4,7 +4,8 @@ ghost use Rattle.std.specs.Prelude.{◌≡◌, ℕ, List, ℤ, length, OnOk, IfE
 ghost use Rattle.spd_model.specs.Process.{Process};
 ghost use Rattle.spd_nodes.specs.declared.forest.StoreFault.TheVariants as Fault;
 ghost use Rattle.spd_backup.specs.Keeping.{HoldAll};
-ghost use Rattle.spd_turn.specs.Backups.{CanBackUp, IsBackupReady, BacksUpAll};
+ghost use Rattle.spd_turn.specs.Jobs.{CanBackUp, IsBackupReady};
+ghost use Rattle.spd_turn.specs.Backups.{BacksUpAll};
 
 use spd_apply::OpFault;
 use spd_backup::{Bounds, Tables, Thawed, backup_with};

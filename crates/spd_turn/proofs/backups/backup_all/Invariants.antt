@@ -1,7 +1,8 @@
 use Rattle.std.proofs.Common.{◌≡◌, ℕ, List, ℤ, length}
 use Rattle.spd_model.specs.Process.{Process}
 use Rattle.spd_backup.specs.Keeping.{HoldAll}
-use Rattle.spd_turn.specs.Backups.{CanBackUp, HaveBackedUp}
+use Rattle.spd_turn.specs.Jobs.{CanBackUp}
+use Rattle.spd_turn.specs.Backups.{HaveBackedUp}
 use Rattle.spd_turn.proofs.backups.backup_all.Given as goal
 
 abbrev pub invariant-loop-action : goal.invariant-loop-action
