@@ -1,0 +1,4 @@
+pub mod Jobs
+pub mod Waves
+pub mod Backups
+pub mod Turn

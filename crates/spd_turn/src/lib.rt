@@ -1,0 +1,19 @@
+//! A turn of value iteration on decision diagrams.
+//!
+//! `spd_turn` backs up all actions beside each other over one shared table of nodes (`backup_actions`): each action is a job with a seat
+//! of its own, jobs go in waves of as many as there are workers, and after each wave its seats are joined in file order. `backup_all`
+//! backs them up one after another over any forest.
+//!
+//! It ends a turn (`finish`), over any forest: of the bounds of all actions it makes the best, the value of the next turn and the
+//! residual, and writes down what is told of the turn (SPUDD, UAI 1999).
+#![tactic(auto)]
+
+mod backups;
+mod ending;
+mod job;
+mod telling;
+mod waves;
+
+pub use backups::backup_all;
+pub use ending::{Finished, finish};
+pub use waves::backup_actions;
