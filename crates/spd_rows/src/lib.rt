@@ -2,7 +2,6 @@
 #![tactic(auto)]
 
 #[cfg(test)]
-mod building;
 #[cfg(test)]
 mod changed_heads;
 #[cfg(test)]
