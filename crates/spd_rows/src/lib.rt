@@ -2,7 +2,6 @@
 #![tactic(auto)]
 
 #[cfg(test)]
-#[cfg(test)]
 mod changed_heads;
 #[cfg(test)]
 mod changed_values;
