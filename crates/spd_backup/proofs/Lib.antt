@@ -3,6 +3,7 @@ mod BoundLaws
 mod BridgeLaws
 mod BuiltLaws
 mod CallerLemmas
+mod ExactLaws
 mod FreeLaws
 mod KeepingLaws
 mod PartLaws
