@@ -85,9 +85,6 @@ exact-stands s o var ws f r sure h way =
 pub both-sure : (s : Shown) (r y n : Entry) (l : ℕ) → s.tree r ≡ Tests l (s.tree y) (s.tree n) → HasSureLeaves (s.tree y) → HasSureLeaves (s.tree n) → HasSureLeaves (s.tree r)
 both-sure s r y n l e a b = rw e (a, b)
 
-pub leaf-sure : (s : Shown) (r : Entry) (a : Leaf) → s.tree r ≡ Ends a → IsSure a → HasSureLeaves (s.tree r)
-leaf-sure s r a e h = rw e h
-
 pub none-sure : (s : Shown) (refs : List Entry) → refs ≡ [] → AreSure s refs
 none-sure s refs e = record { each = λ q m. absurd (let h = subst (λ (l : List Entry). Contains l q) e m in omega (arith, h.1)) }
 
