@@ -29,7 +29,7 @@ use Rattle.spd_backup.proofs.BackLaws.{number-is}
 one-positive : pos 0 <ℤ one
 one-positive = omega (arith, ints)
 
-rounded-one : (way : Way) (x : ℤ) → rounding_of way (x *ℤ one) one ≡ x
+pub rounded-one : (way : Way) (x : ℤ) → rounding_of way (x *ℤ one) one ≡ x
 rounded-one Down x = sym (floor_div_unique (x *ℤ one) one x one-positive (omega (arith, ints)) (omega (arith, ints)))
 rounded-one Up x = sym (ceil_div_unique (x *ℤ one) one x one-positive (omega (arith, ints)) (omega (arith, ints)))
 

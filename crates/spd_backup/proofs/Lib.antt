@@ -3,6 +3,8 @@ mod BoundLaws
 mod BridgeLaws
 mod BuiltLaws
 pub mod CallerLemmas
+mod CallerLemmas
+mod ExactLaws
 mod FreeLaws
 mod KeepingLaws
 mod PartLaws

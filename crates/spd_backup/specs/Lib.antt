@@ -4,3 +4,4 @@ pub mod FromBuilt
 pub mod Keeping
 pub mod Making
 pub mod Free
+pub mod Exact

@@ -8,11 +8,12 @@ ghost use Rattle.spd_restrict.specs.Primed.{primed, TestsNoPrimed};
 ghost use Rattle.spd_weigh.specs.Leaves.{HasValues};
 ghost use Rattle.spd_backup.specs.Expected.{BacksUp};
 ghost use Rattle.spd_backup.specs.Thawing.{IsThawed, HasAction, HasNumbers};
+ghost use Rattle.spd_backup.specs.Exact.{HoldDown};
 ghost use Rattle.spd_backup.specs.Keeping.{HoldWay, HoldAdds, HoldAll, IsPrimed};
 ghost use Rattle.spd_backup.specs.Making.{IsFollowed, Follows, MakesBound};
 
 use crate::expecting::expect;
-use crate::tables::{Tables, WayTables};
+use crate::tables::{SumTables, Tables, WayTables};
 use crate::thawed::Thawed;
 use spd_apply::{Add, OpFault, apply};
 use spd_memo::Memo;
@@ -66,7 +67,7 @@ fn primed_of<F: Forest, L: Ledger>(
     Ok(primed)
 }
 
-/// One bound of an action's return: the discounted expectation, added to the reward.
+/// One bound of an action's return: the discounted expectation, added to the reward. `down` has sums that were rounded down.
 fn bound_of<F: Forest, L: Ledger>(
     alloc: Global,
     forest: &mut F,
@@ -74,11 +75,13 @@ fn bound_of<F: Forest, L: Ledger>(
     next: Ref,
     action: u32,
     way: Way,
+    down: &[SumTables],
     tables: &mut WayTables,
     adds: &mut Memo,
     steps: &mut Steps<L>,
 ) -> Result<Ref, OpFault>
     requires followed { IsFollowed (F.shows forest.old) thawed.now action next }
+    requires down { HoldDown (F.shows forest.old) down.now }
     requires tables { HoldWay way (length thawed.now.sizes.items) thawed.now.g (F.shows forest.old) tables.old }
     requires adds { HoldAdds (F.shows forest.old) adds.old }
     ensures made { (m : Process) (a : Action) (w : List ℕ → ℤ) → Follows m a w (F.shows forest.old) thawed.now action next → MakesBound way m a w (F.shows forest.old) (F.shows forest.new) result }
@@ -94,6 +97,7 @@ fn bound_of<F: Forest, L: Ledger>(
         next,
         action,
         way,
+        down,
         &mut tables.sums,
         steps,
     )?;
@@ -142,6 +146,7 @@ pub fn backup_with<F: Forest, L: Ledger>(
         next,
         action,
         Way::Down,
+        &[],
         &mut tables.down,
         &mut tables.adds,
         steps,
@@ -153,6 +158,7 @@ pub fn backup_with<F: Forest, L: Ledger>(
         next,
         action,
         Way::Up,
+        tables.down.sums.as_slice(),
         &mut tables.up,
         &mut tables.adds,
         steps,

@@ -6,10 +6,11 @@ ghost use Rattle.spd_model.specs.declared.process.Action.{Action};
 ghost use Rattle.spd_nodes.specs.Shown.{Shown, MakesDiagram, meaning};
 ghost use Rattle.spd_weigh.specs.Weighing.{summed_out};
 ghost use Rattle.spd_backup.specs.Thawing.{weights_in};
+ghost use Rattle.spd_backup.specs.Exact.{HoldDown};
 ghost use Rattle.spd_backup.specs.Keeping.{HoldVariable, HoldEachSum};
 ghost use Rattle.spd_backup.specs.Making.{IsFollowed, Follows, MakesExpected, CanSumOut};
 
-use crate::free::sum_or_keep;
+use crate::exact::sum_once;
 use crate::tables::{SumTables, kept_sum, last_sum};
 use crate::thawed::{Thawed, weights_of};
 use spd_apply::OpFault;
@@ -18,7 +19,7 @@ use spd_weigh::Way;
 use std::alloc::Global;
 use std::sync::ledger::Ledger;
 
-/// An expectation with one variable more summed out, by an action's weights of it.
+/// An expectation with one variable more summed out, by an action's weights of it. `down` has sums that were rounded down.
 fn sum_variable<F: Forest, L: Ledger>(
     alloc: Global,
     forest: &mut F,
@@ -27,10 +28,12 @@ fn sum_variable<F: Forest, L: Ledger>(
     action: u32,
     var: usize,
     way: Way,
+    down: &[SumTables],
     tables: &mut SumTables,
     steps: &mut Steps<L>,
 ) -> Result<Ref, OpFault>
-    requires { CanSumOut way (F.shows forest.old) thawed.now expected action var tables.old }
+    requires down { HoldDown (F.shows forest.old) down.now }
+    requires can { CanSumOut way (F.shows forest.old) thawed.now expected action var tables.old }
     ensures made { MakesDiagram (F.shows forest.old) (F.shows forest.new) (summed_out way var (map (meaning (F.shows forest.old)) (weights_in thawed.now.sizes.items thawed.now.weights.items action var)) (meaning (F.shows forest.old) expected)) result }
     ensures keeps { F.kept forest.new ≡ F.kept forest.old }
     ensures tables { HoldVariable way var (F.shows forest.new) tables.new }
@@ -40,13 +43,14 @@ fn sum_variable<F: Forest, L: Ledger>(
     if let Some(sum) = last_sum(&tables.last, expected, weights) {
         return Ok(sum);
     }
-    let sum = sum_or_keep(
+    let sum = sum_once(
         alloc,
         forest,
         expected,
         var as u32,
         weights,
         way,
+        down,
         &mut tables.rows,
         steps,
     )?;
@@ -55,7 +59,8 @@ fn sum_variable<F: Forest, L: Ledger>(
 }
 
 /// The expectation of a primed value after an action: the variables' next values are summed out in order, one after another. The
-/// tables hold sums rounded this way, one table for each variable.
+/// tables hold sums rounded this way, one table for each variable. What stands in `down`, rounded down, isn't made again where no
+/// rounding changes it.
 pub fn expect<F: Forest, L: Ledger>(
     alloc: Global,
     forest: &mut F,
@@ -63,10 +68,12 @@ pub fn expect<F: Forest, L: Ledger>(
     next: Ref,
     action: u32,
     way: Way,
+    down: &[SumTables],
     sums: &mut Vec<SumTables>,
     steps: &mut Steps<L>,
 ) -> Result<Ref, OpFault>
     requires followed { IsFollowed (F.shows forest.old) thawed.now action next }
+    requires down { HoldDown (F.shows forest.old) down.now }
     requires sums { HoldEachSum way (length thawed.now.sizes.items) (F.shows forest.old) sums.old.items }
     ensures made { (m : Process) (a : Action) (w : List ℕ → ℤ) → Follows m a w (F.shows forest.old) thawed.now action next → MakesExpected way m a w (F.shows forest.old) (F.shows forest.new) result }
     ensures keeps { F.kept forest.new ≡ F.kept forest.old }
@@ -84,6 +91,7 @@ pub fn expect<F: Forest, L: Ledger>(
             action,
             var,
             way,
+            down,
             &mut sums[var],
             steps,
         )?;

@@ -1,14 +1,15 @@
 //! Backing up a value on diagrams: the bounds of one action's return.
 //!
 //! `spd_backup` has `backup`, one action's part of value iteration on decision diagrams (SPUDD, UAI 1999). The value's diagram is
-//! primed, each variable's next value is summed out by the action's weights, one variable after another, and the discounted
-//! expectation is added to the reward: once with all roundings down and once with all up. The answers of all operations are kept in
-//! `Tables`, which a caller hands from action to action, so that what two actions have in common is made once. A variable that an
-//! expectation doesn't follow costs a search of its diagram, and nothing is made. `thaw_built` makes a built process's lists of nodes the
-//! diagrams that a backup reads.
+//! primed, each variable's next value is summed out by the action's weights, one variable after another, and the discounted expectation
+//! is added to the reward: once with all roundings down and once with all up. The answers of all operations are kept in `Tables`, which
+//! a caller hands from action to action, so that what two actions have in common is made once. A variable that an expectation doesn't
+//! follow costs a search of its diagram, and nothing is made. A variable whose weights are all 0 or one is summed out of an expectation
+//! once for both bounds. `thaw_built` makes a built process's lists of nodes the diagrams that a backup reads.
 #![tactic(auto)]
 
 mod backing;
+mod exact;
 mod expecting;
 mod free;
 mod tables;

@@ -1,9 +1,11 @@
-use Rattle.std.proofs.Common.{length, ◌∙◌, sym, subst, Ok}
+use Rattle.std.proofs.Common.{length, ◌∙◌, refl, sym, subst, Ok}
 use Rattle.spd_apply.proofs.CallerLemmas.{answers-grow}
 use Rattle.spd_weigh.specs.declared.way.Way.TheVariants.{Down, Up}
+use Rattle.spd_backup.specs.Exact.{HoldDown}
 use Rattle.spd_backup.specs.Expected.{BacksUp}
 use Rattle.spd_backup.proofs.BackLaws.{back-fails, both-made, follows-grows, followed-grows, high-fails, is-followed, low-fails, next-follows, next-made}
 use Rattle.spd_model.proofs.CallerLemmas.Results.{err_is}
+use Rattle.spd_backup.proofs.ExactLaws.{down-held, down-none}
 use Rattle.spd_backup.proofs.KeepingLaws.{last-grows, way-grows}
 use Rattle.spd_backup.proofs.backing.backup_with.Goals as goal
 use Rattle.spd_nodes.proofs.CallerLemmas.{grows-then}
@@ -42,6 +44,7 @@ bound_of-requires g c =
     let made = c.in_ok-next.ensures.made in
     record {
       followed = is-followed s c.args.thawed.now c.args.action c.args.w c.layout.ensures.sound c.requires.thawed c.requires.values t c.in_ok-next.next made;
+      down = down-none t _ refl;
       tables = way-grows Down (length c.args.thawed.now.sizes.items) c.args.thawed.now.g s t c.args.tables.now.down made.grows c.requires.tables.down;
       adds = answers-grow c.requires.tables.adds made.grows;
     }
@@ -83,6 +86,7 @@ bound_of-requires-2 g c =
     let grows = (c.in_ok-lo.ensures.made k.process k.chosen k.value k.follows).among.grows in
     record {
       followed = followed-grows grows k;
+      down = subst (HoldDown u) (sym c.as_slice.ensures.value) (down-held u (length c.args.thawed.now.sizes.items) c.bound_of.new.tables.sums.items c.bound_of.ensures.tables.sums);
       tables = way-grows Up (length c.args.thawed.now.sizes.items) c.args.thawed.now.g s u c.args.tables.now.up (grows-then c.in_ok-next.ensures.made.grows grows) c.requires.tables.up;
       adds = c.bound_of.ensures.adds;
     }

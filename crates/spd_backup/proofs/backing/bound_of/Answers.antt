@@ -10,7 +10,7 @@ use Rattle.spd_backup.proofs.backing.bound_of.Goals as goal
 use Rattle.spd_nodes.proofs.CallerLemmas.{among-fails, grows-then}
 
 pub expect-requires : goal.expect-requires
-expect-requires g c = record { followed = c.requires.followed; sums = c.requires.tables.sums }
+expect-requires g c = record { followed = c.requires.followed; down = c.requires.down; sums = c.requires.tables.sums }
 
 -- ---- where the expectation isn't made
 

@@ -2,6 +2,7 @@ use Rattle.std.proofs.Common.{◌≡◌, ℕ, ◌<◌, length, refl, sym, ◌∙
 use Rattle.spd_model.proofs.CallerLemmas.StateOrder.{length-sizes}
 use Rattle.spd_backup.specs.Keeping.{HoldVariable}
 use Rattle.spd_backup.specs.Making.{MakesFirst, MakesExpected}
+use Rattle.spd_backup.proofs.ExactLaws.{down-grows}
 use Rattle.spd_backup.proofs.KeepingLaws.{each-set}
 use Rattle.spd_model.proofs.CallerLemmas.Results.{err_is}
 use Rattle.spd_backup.proofs.StepLaws.{can-sum-out, sum-then, nothing-summed, first-fails}
@@ -26,8 +27,11 @@ sum_variable-requires g c =
     let so = c.loop-var.invariant.made k.process k.chosen k.value k.follows in
     let n : length c.as_slice-sizes.result.now ≡ length c.args.thawed.now.sizes.items = ap length c.as_slice-sizes.ensures.value in
     let b : c.loop-var.var < length c.args.thawed.now.sizes.items = subst (λ (k : ℕ). c.loop-var.var < k) n c.loop-var-test.true in
-    can-sum-out c.args.way k.process k.chosen k.value (g.F.Forest.shows c.args.forest.now) c.args.thawed.now c.args.action c.args.next k.follows (g.F.Forest.shows c.loop-var.forest) so.among.grows c.loop-var.expected c.loop-var.var b so.among.ok
-    c.index_mut.result.now (subst (HoldVariable c.args.way c.loop-var.var (g.F.Forest.shows c.loop-var.forest)) (sym c.index_mut.ensures.value) (c.loop-var.invariant.sums.each c.loop-var.var c.index_mut.result.now b))
+    record {
+      down = down-grows (g.F.Forest.shows c.args.forest.now) (g.F.Forest.shows c.loop-var.forest) c.args.down.now so.among.grows c.requires.down;
+      can = can-sum-out c.args.way k.process k.chosen k.value (g.F.Forest.shows c.args.forest.now) c.args.thawed.now c.args.action c.args.next k.follows (g.F.Forest.shows c.loop-var.forest) so.among.grows c.loop-var.expected c.loop-var.var b so.among.ok
+          c.index_mut.result.now (subst (HoldVariable c.args.way c.loop-var.var (g.F.Forest.shows c.loop-var.forest)) (sym c.index_mut.ensures.value) (c.loop-var.invariant.sums.each c.loop-var.var c.index_mut.result.now b));
+    }
 
 pub loop-var-preserved : goal.loop-var-preserved
 loop-var-preserved g c =
