@@ -3,7 +3,6 @@ mod BoundLaws
 mod BridgeLaws
 mod BuiltLaws
 pub mod CallerLemmas
-mod CallerLemmas
 mod ExactLaws
 mod FreeLaws
 mod KeepingLaws
