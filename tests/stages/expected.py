@@ -12,7 +12,14 @@ HERE = os.path.dirname(os.path.abspath(__file__))
 sys.path.insert(0, os.path.join(HERE, "..", "small"))
 import reference as r
 
-NAMES = ["keep", "mix", "die", "sixteen", "coffee", "arc"]
+TITLES = {
+    "keep": "A variable that its only action keeps.",
+    "mix": "A die that is thrown anew, with probabilities that are rounded thirds.",
+    "die": "A die that its only action keeps.",
+    "sixteen": "Four variables that their only action keeps, with a reward of its own for each of the sixteen states.",
+    "coffee": "A robot fetches coffee; rain makes it wet.",
+    "arc": "A variable that takes the next value of the one after it.",
+}
 
 
 def tree(sizes, f):
@@ -65,6 +72,40 @@ def backup_functions(m, a, w):
         functions.append(lambda s, t, later=later: later[s])
         functions.append(lambda s, t, later=later: r.reward(m, a, s) + later[s])
     return functions
+
+
+def tree_functions(m, x):
+    """The functions of a tree of the model: of a number it is the constant; of a branch those of its subtrees, and for each of the
+    variable's values the branch from that value on, which is the last subtree elsewhere."""
+    if not isinstance(x, tuple):
+        return [lambda s, t: x]
+    _, var, primed, kids = x
+    functions = [f for kid in kids for f in tree_functions(m, kid)]
+    for least in range(len(kids)):
+        functions.append(lambda s, t, least=least: r.value_of(kids[-1] if (t if primed else s)[var] < least else x, s, t))
+    return functions
+
+
+def part_functions(m, parts):
+    """Those of a reward or of a cost: of its parts, the sums of the first ones, and the whole sum in units of 10^-9."""
+    functions = [f for x in parts for f in tree_functions(m, x)]
+    for n in range(len(parts) + 1):
+        functions.append(lambda s, t, n=n: sum(r.value_of(x, s, t) for x in parts[:n]))
+    return functions + [lambda s, t: sum(r.value_of(x, s, t) for x in parts) // 1000]
+
+
+def building_functions(m):
+    """The functions of building a model's parts. A decision diagram that is named stands in each tree that names it."""
+    functions = [lambda s, t: 0, lambda s, t: r.P]
+    for a, (_, tables, cost) in enumerate(m.actions):
+        for i, values in enumerate(m.values):
+            functions += tree_functions(m, tables[i])
+            for v in range(len(values)):
+                functions.append(lambda s, t, a=a, i=i, v=v: r.probability(m, a, s, i, v, t[i + 1:]))
+                functions.append(lambda s, t, a=a, i=i, v=v: sum(r.probability(m, a, s, i, u, t[i + 1:]) for u in range(v + 1)))
+        functions += part_functions(m, cost) + [lambda s, t, a=a: r.reward(m, a, s)]
+        functions.append(lambda s, t, a=a: max(r.reward(m, b, s) for b in range(a + 1)))
+    return functions + part_functions(m, m.reward)
 
 
 def bound(m, a, w, divide):
@@ -120,21 +161,18 @@ def array(lines):
     return "&[" + ", ".join(lines) + "]"
 
 
-def short(m, lines):
-    return [x for x in lines]
-
-
 def main():
     out = sys.argv[1]
     models = ["//! Model files. Those of `tests/stages`, from which they are written by its script."]
     wanted = ["//! What building and backing up gives, by the definitions on plain tables: written by the script in `tests/stages`.",
               "use crate::wanted::Want::{self, Leaf, Next, Now};", "use crate::wanted::{Backed, Parts};", "use crate::models;"]
-    for name in NAMES:
+    for name in TITLES:
         data = r.read(os.path.join(HERE, name + ".spudd"))
         m = r.Model(data)
         sizes = [len(v) for v in m.values]
         upper = name.upper()
         text = data.decode().rstrip("\n").replace("\\", "\\\\").replace('"', '\\"')
+        models.append("/// " + TITLES[name])
         models.append("pub const %s: &str = \"%s\";" % (upper, text))
         rows = []
         for title, w in (("start", first(m)), ("second value", second(m))):
@@ -146,7 +184,12 @@ def main():
                 print(name, title, action, nodes, "nodes", file=sys.stderr)
                 rows.append("Backed { what: \"%s: %s, %s\", file: models::%s, action: %d, value: %s, lo: %s, hi: %s, nodes: %d }" % (
                     name, action, title, upper, a, values, array(present(m, bound(m, a, w, r.floor))), array(present(m, bound(m, a, w, r.ceiling))), nodes))
+        wanted.append("/// Backups of each action, where the value at the start follows, and where another one does.")
         wanted.append("pub const %s: &[Backed] = &[%s];" % (upper, ", ".join(rows)))
+        if name == "mix":
+            trees = [tree(sizes, f) for f in building_functions(m) + backup_functions(m, 0, first(m)) + [lambda s, t: first(m)[s]]]
+            wanted.append("/// The number of nodes of the functions of building, of the value at the start, and of the first action's backup where it follows.")
+            wanted.append("pub const MIX_NODES: u32 = %d;" % subtrees(trees))
         if name in ("mix", "arc", "coffee"):
             weights = []
             for a in range(len(m.actions)):
@@ -154,6 +197,7 @@ def main():
                     for v in range(sizes[i]):
                         weights.append(array(mixed(m, lambda s, t, a=a, i=i, v=v: r.probability(m, a, s, i, v, t[i + 1:]))))
             rewards = [array(present(m, {s: r.reward(m, a, s) for s in m.states})) for a in range(len(m.actions))]
+            wanted.append("/// Its parts.")
             wanted.append("pub const %s_PARTS: Parts = Parts { file: models::%s, weights: &[%s], rewards: &[%s], start: %s_START };" % (
                 upper, upper, ", ".join(weights), ", ".join(rewards), upper))
     for name, lines in (("models.rt", models), ("expected.rt", wanted)):

@@ -40,11 +40,15 @@ fn check_backup<F: Forest, L: Ledger>(
 ) -> Result<(), Fail>
     requires { (F.shows forest.old).sizes ≡ sizes model.now }
 {
-    let thawed = prepared(alloc, model, forest, steps)?;
+    let Some(thawed) = prepared(alloc, model, forest, steps)? else {
+        return Err(Fail::new("full"));
+    };
     let table = table_of(alloc, model, case.value)?;
     let w = thaw(alloc, forest, &table, steps)?;
     let before = entries(forest, 0, steps)?;
-    let bounds = backed_up(alloc, model, forest, &thawed, w, case.action, steps)?;
+    let Some(bounds) = backed_up(alloc, model, forest, &thawed, w, case.action, steps)? else {
+        return Err(Fail::new("full"));
+    };
     let after = entries(forest, 1, steps)?;
     check(forest, model, bounds.lo, case.lo, case.what)?;
     check(forest, model, bounds.hi, case.hi, case.what)?;

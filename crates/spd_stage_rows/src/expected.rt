@@ -6,7 +6,7 @@ use crate::wanted::{Backed, Parts};
 const KEEP_START: &[Want] = &[Leaf(1000000000), Leaf(0), Now(0, &[0, 1])];
 
 const KEEP_SECOND: &[Want] = &[Leaf(-9333333436), Leaf(1666666685), Now(0, &[0, 1])];
-
+/// Backups of each action, where the value at the start follows, and where another one does.
 pub const KEEP: &[Backed] = &[
     Backed {
         what: "keep: stay, start",
@@ -36,7 +36,7 @@ const MIX_SECOND: &[Want] = &[
     Leaf(32666667026),
     Now(0, &[0, 1, 2]),
 ];
-
+/// Backups of each action, where the value at the start follows, and where another one does.
 pub const MIX: &[Backed] = &[
     Backed {
         what: "mix: mix, start",
@@ -57,7 +57,9 @@ pub const MIX: &[Backed] = &[
         nodes: 18,
     },
 ];
-
+/// The number of nodes of the functions of building, of the value at the start, and of the first action's backup where it follows.
+pub const MIX_NODES: u32 = 21;
+/// Its parts.
 pub const MIX_PARTS: Parts = Parts {
     file: models::MIX,
     weights: &[
@@ -82,7 +84,7 @@ const DIE_SECOND: &[Want] = &[
     Leaf(32666667026),
     Now(0, &[0, 1, 2]),
 ];
-
+/// Backups of each action, where the value at the start follows, and where another one does.
 pub const DIE: &[Backed] = &[
     Backed {
         what: "die: stay, start",
@@ -175,7 +177,7 @@ const SIXTEEN_SECOND: &[Want] = &[
     Now(2, &[9, 12]),
     Now(0, &[6, 13]),
 ];
-
+/// Backups of each action, where the value at the start follows, and where another one does.
 pub const SIXTEEN: &[Backed] = &[
     Backed {
         what: "sixteen: stay, start",
@@ -352,7 +354,7 @@ const COFFEE_SECOND: &[Want] = &[
     Now(2, &[9, 12]),
     Now(0, &[6, 13]),
 ];
-
+/// Backups of each action, where the value at the start follows, and where another one does.
 pub const COFFEE: &[Backed] = &[
     Backed {
         what: "coffee: move, start",
@@ -675,7 +677,7 @@ pub const COFFEE: &[Backed] = &[
         nodes: 199,
     },
 ];
-
+/// Its parts.
 pub const COFFEE_PARTS: Parts = Parts {
     file: models::COFFEE,
     weights: &[
@@ -830,7 +832,7 @@ const ARC_SECOND: &[Want] = &[
     Now(1, &[3, 4]),
     Now(0, &[2, 5]),
 ];
-
+/// Backups of each action, where the value at the start follows, and where another one does.
 pub const ARC: &[Backed] = &[
     Backed {
         what: "arc: go, start",
@@ -883,7 +885,7 @@ pub const ARC: &[Backed] = &[
         nodes: 30,
     },
 ];
-
+/// Its parts.
 pub const ARC_PARTS: Parts = Parts {
     file: models::ARC,
     weights: &[

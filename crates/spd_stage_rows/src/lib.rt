@@ -5,7 +5,11 @@
 #[cfg(test)]
 mod backing;
 #[cfg(test)]
+mod building;
+#[cfg(test)]
 mod expected;
+#[cfg(test)]
+mod limits;
 #[cfg(test)]
 mod models;
 #[cfg(test)]

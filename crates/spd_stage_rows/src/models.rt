@@ -1,4 +1,5 @@
 //! Model files. Those of `tests/stages`, from which they are written by its script.
+/// A variable that its only action keeps.
 pub const KEEP: &str = "(variables (x yes no))
 action stay
 x (x (yes (x' (yes (1)) (no (0)))) (no (x' (yes (0)) (no (1)))))
@@ -6,7 +7,7 @@ endaction
 reward (x (yes (1)) (no (0)))
 discount 0.5
 tolerance 0.1";
-
+/// A die that is thrown anew, with probabilities that are rounded thirds.
 pub const MIX: &str = "(variables (die one two three))
 action mix
 die (die' (one (0.333333333333)) (two (0.333333333333)) (three (0.333333333334)))
@@ -14,7 +15,7 @@ endaction
 reward (die (one (1)) (two (0)) (three (0)))
 discount 0.5
 tolerance 0.1";
-
+/// A die that its only action keeps.
 pub const DIE: &str = "(variables (die one two three))
 action stay
 die (die (one (die' (one (1)) (two (0)) (three (0)))) (two (die' (one (0)) (two (1)) (three (0)))) (three (die' (one (0)) (two (0)) (three (1)))))
@@ -22,7 +23,7 @@ endaction
 reward (die (one (0)) (two (0.4)) (three (1)))
 discount 0.5
 tolerance 0.1";
-
+/// Four variables that their only action keeps, with a reward of its own for each of the sixteen states.
 pub const SIXTEEN: &str = "(variables (a yes no) (b yes no) (c yes no) (d yes no))
 action stay
 a (a (yes (a' (yes (1)) (no (0)))) (no (a' (yes (0)) (no (1)))))
@@ -33,7 +34,7 @@ endaction
 reward (a (yes (b (yes (c (yes (d (yes (1)) (no (2)))) (no (d (yes (3)) (no (4)))))) (no (c (yes (d (yes (5)) (no (6)))) (no (d (yes (7)) (no (8)))))))) (no (b (yes (c (yes (d (yes (9)) (no (10)))) (no (d (yes (11)) (no (12)))))) (no (c (yes (d (yes (13)) (no (14)))) (no (d (yes (15)) (no (16)))))))))
 discount 0.5
 tolerance 1";
-
+/// A robot fetches coffee; rain makes it wet.
 pub const COFFEE: &str = "// A robot fetches coffee; rain makes it wet.
 (variables (huc yes no) (hrc yes no) (wet yes no)
            (rain yes no) (umb yes no) (loc office shop))
@@ -68,7 +69,7 @@ endaction
 reward [+ (huc (yes (0.9)) (no (0))) (wet (yes (0)) (no (0.1)))]
 discount 0.9
 tolerance 0.01";
-
+/// A variable that takes the next value of the one after it.
 pub const ARC: &str = "(variables (x yes no) (y yes no))
 action go
 x (y' (yes (x' (yes (1)) (no (0)))) (no (x' (yes (0)) (no (1)))))

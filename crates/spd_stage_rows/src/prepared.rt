@@ -1,13 +1,13 @@
 //! Models that are read, built and drawn in a forest, and backups of their actions.
-ghost use Rattle.std.specs.Prelude.{◌≡◌, ◌<◌, ◌≤◌, ℕ, ℤ, List, IfOk, true, length};
+ghost use Rattle.std.specs.Prelude.{◌≡◌, ◌<◌, ◌≤◌, ℕ, ℤ, List, IfOk, IfSome, true, length};
 ghost use Rattle.spd_model.specs.States.{sizes};
 ghost use Rattle.spd_nodes.specs.Shown.{Shown, Grows};
 ghost use Rattle.spd_weigh.specs.Leaves.{IsValue};
 ghost use Rattle.spd_backup.specs.Thawing.{IsThawedOf};
 
-use spd_apply::{LeafMap, maps_leaves};
+use spd_apply::{LeafMap, OpFault, maps_leaves};
 use spd_backup::{Bounds, Thawed, backup, thaw_built};
-use spd_build::build;
+use spd_build::{BuildFault, build};
 use spd_model::Model;
 use spd_nodes::{Forest, Leaf, Ref, Steps, is_whole};
 use spd_reader::read_model;
@@ -54,27 +54,33 @@ pub fn model_of(alloc: Global, file: &str) -> Result<Model, Fail> {
     }
 }
 
-/// A model's parts in a forest over its variables, ready for backing up.
+/// A model's parts in a forest over its variables, ready for backing up; None where the forest was full.
 pub fn prepared<F: Forest, L: Ledger>(
     alloc: Global,
     model: &Model,
     forest: &mut F,
     steps: &mut Steps<L>,
-) -> Result<Thawed, Fail>
+) -> Result<Option<Thawed>, Fail>
     requires layout { (F.shows forest.old).sizes ≡ sizes model.now }
     ensures grows { Grows (F.shows forest.old) (F.shows forest.new) }
-    ensures thawed { IfOk result (IsThawedOf model.now (F.shows forest.new)) }
+    ensures thawed { IfOk result (λ o. IfSome o (IsThawedOf model.now (F.shows forest.new))) }
 {
     // Reading a field tells the proof what every model keeps.
     let _vars = &model.vars;
     let built = match build(alloc, model, forest, MEMO_SIZE, steps) {
         Ok(built) => built,
+        Err(BuildFault::Full) => return Ok(None),
         Err(fault) => return Err(Fail::new(format_args!("{fault:?}"))),
     };
-    Ok(thaw_built(alloc, &built, forest, steps)?)
+    match thaw_built(alloc, &built, forest, steps) {
+        Ok(thawed) => Ok(Some(thawed)),
+        Err(OpFault::Full) => Ok(None),
+        Err(OpFault::Memory) => Err(Fail::new("no memory")),
+    }
 }
 
-/// The bounds of an action's return where a known value follows, where a test of the conditions passes.
+/// The bounds of an action's return where a known value follows, where a test of the conditions passes; None where
+/// the forest was full.
 pub fn backed_up<F: Forest, L: Ledger>(
     alloc: Global,
     model: &Model,
@@ -83,12 +89,12 @@ pub fn backed_up<F: Forest, L: Ledger>(
     w: Ref,
     action: u32,
     steps: &mut Steps<L>,
-) -> Result<Bounds, Fail>
+) -> Result<Option<Bounds>, Fail>
     requires thawed { IsThawedOf model.now (F.shows forest.old) thawed.now }
     requires known { (F.shows forest.old).knows w ≡ true }
     ensures grows { Grows (F.shows forest.old) (F.shows forest.new) }
-    ensures lo { IfOk result (λ b. (F.shows forest.new).knows b.lo ≡ true) }
-    ensures hi { IfOk result (λ b. (F.shows forest.new).knows b.hi ≡ true) }
+    ensures lo { IfOk result (λ o. IfSome o (λ b. (F.shows forest.new).knows b.lo ≡ true)) }
+    ensures hi { IfOk result (λ o. IfSome o (λ b. (F.shows forest.new).knows b.hi ≡ true)) }
 {
     if action as usize >= model.actions.as_slice().len() {
         return Err(Fail::new("no such action"));
@@ -99,5 +105,9 @@ pub fn backed_up<F: Forest, L: Ledger>(
     if !maps_leaves(alloc, forest, &IsAValue, w)? {
         return Err(Fail::new("a leaf is no value"));
     }
-    Ok(backup(alloc, thawed, forest, w, action, MEMO_SIZE, steps)?)
+    match backup(alloc, thawed, forest, w, action, MEMO_SIZE, steps) {
+        Ok(bounds) => Ok(Some(bounds)),
+        Err(OpFault::Full) => Ok(None),
+        Err(OpFault::Memory) => Err(Fail::new("no memory")),
+    }
 }
