@@ -198,8 +198,8 @@ def main():
                         weights.append(array(mixed(m, lambda s, t, a=a, i=i, v=v: r.probability(m, a, s, i, v, t[i + 1:]))))
             rewards = [array(present(m, {s: r.reward(m, a, s) for s in m.states})) for a in range(len(m.actions))]
             wanted.append("/// Its parts.")
-            wanted.append("pub const %s_PARTS: Parts = Parts { file: models::%s, weights: &[%s], rewards: &[%s], start: %s_START };" % (
-                upper, upper, ", ".join(weights), ", ".join(rewards), upper))
+            wanted.append("pub const %s_PARTS: Parts = Parts { file: models::%s, sizes: &%s, discount: %d, weights: &[%s], rewards: &[%s], start: %s_START };" % (
+                upper, upper, sizes, m.discount, ", ".join(weights), ", ".join(rewards), upper))
     for name, lines in (("models.rt", models), ("expected.rt", wanted)):
         with open(os.path.join(out, name), "w") as file:
             file.write("\n".join(lines) + "\n")

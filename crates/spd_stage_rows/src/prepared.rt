@@ -1,9 +1,9 @@
 //! Models that are read, built and drawn in a forest, and backups of their actions.
-ghost use Rattle.std.specs.Prelude.{◌≡◌, ◌<◌, ◌≤◌, ℕ, ℤ, List, IfOk, IfSome, true, length};
+ghost use Rattle.std.specs.Prelude.{◌≡◌, ◌<◌, ◌≤◌, ℕ, ℤ, List, All, IfOk, IfSome, true, length};
 ghost use Rattle.spd_model.specs.States.{sizes};
 ghost use Rattle.spd_nodes.specs.Shown.{Shown, Grows};
-ghost use Rattle.spd_weigh.specs.Leaves.{IsValue};
 ghost use Rattle.spd_backup.specs.Thawing.{IsThawedOf};
+ghost use Rattle.spd_stage_rows.specs.Values.{is_value};
 
 use spd_apply::{LeafMap, OpFault, maps_leaves};
 use spd_backup::{Bounds, Thawed, backup, thaw_built};
@@ -26,7 +26,7 @@ const VALUE_LIMIT: u128 = 1_000_000_000_000_000_001_000_000;
 struct IsAValue;
 
 impl LeafMap for IsAValue {
-    ghost fits = { λ _ a. IsValue a };
+    ghost fits = { λ _ a. is_value a };
 
     ghost of = { λ _ a. a };
 
@@ -64,6 +64,7 @@ pub fn prepared<F: Forest, L: Ledger>(
     requires layout { (F.shows forest.old).sizes ≡ sizes model.now }
     ensures grows { Grows (F.shows forest.old) (F.shows forest.new) }
     ensures thawed { IfOk result (λ o. IfSome o (IsThawedOf model.now (F.shows forest.new))) }
+    ensures rewards { IfOk result (λ o. IfSome o (λ x. All (λ r. (F.shows forest.new).knows r ≡ true) x.rewards.items)) }
 {
     // Reading a field tells the proof what every model keeps.
     let _vars = &model.vars;

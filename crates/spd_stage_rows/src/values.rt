@@ -11,13 +11,19 @@ use spd_nodes::{Forest, Leaf, Ref, View};
 use std::alloc::Global;
 use std::test::Fail;
 
-/// The number of a model's states, if it is a `usize`.
+/// The greatest number of states that tables are made of.
+const STATE_LIMIT: usize = 4096;
+
+/// The number of a model's states, if there are at most so many.
 pub fn count_states(model: &Model) -> Option<usize>
     ensures { IfSome result (λ count. count ≡ state_count (sizes model.now)) }
 {
-    let mut count: usize = 1;
+    let mut count = 1;
     for var in model.vars.as_slice() {
-        count = count.checked_mul(var.values.len())?;
+        count *= var.values.len();
+        if count > STATE_LIMIT {
+            return None;
+        }
     }
     Some(count)
 }
