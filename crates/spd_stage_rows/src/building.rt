@@ -146,6 +146,10 @@ fn parts_are_those_of_the_definitions(rt: HostRuntime) -> Result<(), Fail> {
             "start: {:?}",
             built.start
         );
+        assert_eq!(rt;
+            (built.sizes.as_slice(), built.g),
+            (parts.sizes, parts.discount)
+        );
         let table = table_of(alloc, &model, start)?;
         assert_eq!(rt; built.start.nodes(), table.nodes());
     }

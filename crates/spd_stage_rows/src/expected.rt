@@ -62,6 +62,8 @@ pub const MIX_NODES: u32 = 21;
 /// Its parts.
 pub const MIX_PARTS: Parts = Parts {
     file: models::MIX,
+    sizes: &[3],
+    discount: 500000,
     weights: &[
         &[Leaf(333333333333)],
         &[Leaf(333333333333)],
@@ -680,6 +682,8 @@ pub const COFFEE: &[Backed] = &[
 /// Its parts.
 pub const COFFEE_PARTS: Parts = Parts {
     file: models::COFFEE,
+    sizes: &[2, 2, 2, 2, 2, 2],
+    discount: 900000,
     weights: &[
         &[Leaf(1000000000000), Leaf(0), Now(0, &[0, 1])],
         &[Leaf(0), Leaf(1000000000000), Now(0, &[0, 1])],
@@ -888,6 +892,8 @@ pub const ARC: &[Backed] = &[
 /// Its parts.
 pub const ARC_PARTS: Parts = Parts {
     file: models::ARC,
+    sizes: &[2, 2],
+    discount: 500000,
     weights: &[
         &[Leaf(1000000000000), Leaf(0), Next(1, &[0, 1])],
         &[Leaf(0), Leaf(1000000000000), Next(1, &[0, 1])],

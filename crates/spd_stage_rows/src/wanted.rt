@@ -35,6 +35,10 @@ pub struct Backed {
 pub struct Parts {
     /// The model file.
     pub file: &'static str,
+    /// Each variable's number of values.
+    pub sizes: &'static [u8],
+    /// The discount, in units of 10^-6.
+    pub discount: u32,
     /// The probabilities: by action, then variable, then the variable's next value.
     pub weights: &'static [&'static [Want]],
     /// The reward of each action.
