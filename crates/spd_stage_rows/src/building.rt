@@ -1,14 +1,10 @@
-//! Building: the lists of nodes of some models' parts, and the fault of some others.
+//! Building: the first fault of some models.
 ghost use Rattle.std.specs.Prelude.{◌≡◌, ◌<◌};
 
-use crate::expected::{ARC_PARTS, COFFEE_PARTS, MIX_PARTS};
-use crate::prepared::{MEMO_SIZE, model_of};
-use crate::values::table_of;
-use crate::wanted::{Parts, Want};
 use spd_build::{BuildFault, Built, build, layout_of};
-use spd_frozen::{Mixed, MixedNode, Node};
 use spd_model::Model;
-use spd_nodes::{Alone, Leaf, Steps};
+use spd_nodes::{Alone, Steps};
+use spd_reader::read_model;
 use std::alloc::Global;
 use std::marker::Brand;
 use std::sync::ledger::{Blank, Ledger};
@@ -69,6 +65,21 @@ reward (x (yes (1000000000)) (no (-1000000000)))
 discount 0.5
 tolerance 0.1";
 
+/// How many answers each table of an operation keeps.
+const MEMO_SIZE: usize = 1_000;
+
+/// The model of a file.
+fn model_of(alloc: Global, file: &str) -> Result<Model, Fail> {
+    let bytes = file.as_bytes();
+    if bytes.len() > 4_000_000 {
+        return Err(Fail::new("too long"));
+    }
+    match read_model(alloc, bytes) {
+        Ok(model) => Ok(model),
+        Err(unread) => Err(Fail::new(format_args!("{unread:?}"))),
+    }
+}
+
 /// What the model's file is built into, over a forest of so many entries.
 fn built_alone<L: Ledger>(
     alloc: Global,
@@ -83,77 +94,6 @@ fn built_alone<L: Ledger>(
     let mut steps = Steps::<L>::new(blank);
     let mut forest = Alone::new(alloc, layout_of(alloc, model)?, limit)?;
     build(alloc, model, &mut forest, MEMO_SIZE, &mut steps)
-}
-
-/// Whether a node is what is wanted.
-fn is_node(node: &Node, want: &Want) -> bool {
-    match (node, want) {
-        (Node::Leaf(Leaf::Num(x)), Want::Leaf(y)) => x == y,
-        (Node::Branch { var, kids }, Want::Now(v, k)) => var == v && kids.as_slice() == *k,
-        _ => false,
-    }
-}
-
-/// The same over present and next values.
-fn is_mixed_node(node: &MixedNode, want: &Want) -> bool {
-    match (node, want) {
-        (MixedNode::Leaf(Leaf::Num(x)), Want::Leaf(y)) => x == y,
-        (MixedNode::Branch { var, primed, kids }, Want::Now(v, k)) => {
-            !*primed && var == v && kids.as_slice() == *k
-        }
-        (MixedNode::Branch { var, primed, kids }, Want::Next(v, k)) => {
-            *primed && var == v && kids.as_slice() == *k
-        }
-        _ => false,
-    }
-}
-
-/// Whether a list has exactly the nodes that are wanted, in order.
-fn is_list(nodes: &[Node], want: &[Want]) -> bool {
-    nodes.len() == want.len() && nodes.iter().zip(want).all(|(n, w)| is_node(n, w))
-}
-
-/// The same over present and next values.
-fn is_mixed_list(list: &Mixed, want: &[Want]) -> bool {
-    let nodes = list.nodes();
-    nodes.len() == want.len() && nodes.iter().zip(want).all(|(n, w)| is_mixed_node(n, w))
-}
-
-#[test]
-fn parts_are_those_of_the_definitions(rt: HostRuntime) -> Result<(), Fail> {
-    for parts in [MIX_PARTS, ARC_PARTS, COFFEE_PARTS] {
-        let alloc = rt.alloc();
-        let model = model_of(alloc, parts.file)?;
-        let Ok(built) = built_alone::<Brand>(alloc, &model, 10_000, Blank::new(1)) else {
-            return Err(Fail::new("not built"));
-        };
-        let Parts {
-            weights,
-            rewards,
-            start,
-            ..
-        } = parts;
-        assert_eq!(rt; built.weights.len(), weights.len());
-        for (at, (list, want)) in built.weights.iter().zip(weights).enumerate() {
-            assert!(rt; is_mixed_list(list, want), "weight {at}: {list:?}");
-        }
-        assert_eq!(rt; built.rewards.len(), rewards.len());
-        for (at, (list, want)) in built.rewards.iter().zip(rewards).enumerate() {
-            assert!(rt; is_list(list.nodes(), want), "reward {at}: {list:?}");
-        }
-        assert!(rt;
-            is_list(built.start.nodes(), start),
-            "start: {:?}",
-            built.start
-        );
-        assert_eq!(rt;
-            (built.sizes.as_slice(), built.g),
-            (parts.sizes, parts.discount)
-        );
-        let table = table_of(alloc, &model, start)?;
-        assert_eq!(rt; built.start.nodes(), table.nodes());
-    }
-    Ok(())
 }
 
 /// A fault that is told.

@@ -1,4 +1,0 @@
-mod BuiltLaws
-mod CountLaws
-mod StageLaws
-mod ValueLaws
