@@ -1,7 +1,7 @@
 #!/usr/bin/env python3
 """What building and backing up the models of this folder has to give, by their definitions on plain tables.
 
-    expected.py ../../crates/spd_stage_rows/src        writes models.rt and expected.rt there; then run `rt fmt` in the crate
+    expected.py ../../crates/spd_stage_rows/src        writes models.rt, expected.rt and parts.rt there; then run `rt fmt` in the crate
 
 It reads a model and computes its bounds as tests/small/reference.py does, and shares nothing with the solver. A function is one leaf
 for each present and next state; its test tree tests, variable by variable, the next value and then the present one, each value but
@@ -20,6 +20,8 @@ TITLES = {
     "coffee": "A robot fetches coffee; rain makes it wet.",
     "arc": "A variable that takes the next value of the one after it.",
 }
+
+PARTED = ("mix", "coffee", "arc")
 
 
 def tree(sizes, f):
@@ -164,8 +166,10 @@ def array(lines):
 def main():
     out = sys.argv[1]
     models = ["//! Model files. Those of `tests/stages`, from which they are written by its script."]
-    wanted = ["//! What building and backing up gives, by the definitions on plain tables: written by the script in `tests/stages`.",
-              "use crate::wanted::Want::{self, Leaf, Next, Now};", "use crate::wanted::{Backed, Parts};", "use crate::models;"]
+    wanted = ["//! What backing up gives, by the definitions on plain tables: written by the script in `tests/stages`.",
+              "use crate::wanted::Want::{self, Leaf, Now};", "use crate::wanted::Backed;", "use crate::models;"]
+    parted = ["//! What models are built into, by the definitions on plain tables: written by the script in `tests/stages`.",
+              "use crate::wanted::Want::{Leaf, Next, Now};", "use crate::wanted::Parts;", "use crate::{expected, models};"]
     for name in TITLES:
         data = r.read(os.path.join(HERE, name + ".spudd"))
         m = r.Model(data)
@@ -177,7 +181,8 @@ def main():
         rows = []
         for title, w in (("start", first(m)), ("second value", second(m))):
             values = "%s_%s" % (upper, "START" if title == "start" else "SECOND")
-            wanted.append("const %s: &[Want] = %s;" % (values, array(present(m, w))))
+            wanted.append("/// The value at the start." if title == "start" else "/// Another value.")
+            wanted.append("%sconst %s: &[Want] = %s;" % ("pub " if title == "start" and name in PARTED else "", values, array(present(m, w))))
             for a, (action, _, _) in enumerate(m.actions):
                 functions = backup_functions(m, a, w)
                 nodes = subtrees(tree(sizes, f) for f in functions)
@@ -190,17 +195,17 @@ def main():
             trees = [tree(sizes, f) for f in building_functions(m) + backup_functions(m, 0, first(m)) + [lambda s, t: first(m)[s]]]
             wanted.append("/// The number of nodes of the functions of building, of the value at the start, and of the first action's backup where it follows.")
             wanted.append("pub const MIX_NODES: u32 = %d;" % subtrees(trees))
-        if name in ("mix", "arc", "coffee"):
+        if name in PARTED:
             weights = []
             for a in range(len(m.actions)):
                 for i in range(len(sizes)):
                     for v in range(sizes[i]):
                         weights.append(array(mixed(m, lambda s, t, a=a, i=i, v=v: r.probability(m, a, s, i, v, t[i + 1:]))))
             rewards = [array(present(m, {s: r.reward(m, a, s) for s in m.states})) for a in range(len(m.actions))]
-            wanted.append("/// Its parts.")
-            wanted.append("pub const %s_PARTS: Parts = Parts { file: models::%s, sizes: &%s, discount: %d, weights: &[%s], rewards: &[%s], start: %s_START };" % (
+            parted.append("/// " + TITLES[name])
+            parted.append("pub const %s: Parts = Parts { file: models::%s, sizes: &%s, discount: %d, weights: &[%s], rewards: &[%s], start: expected::%s_START };" % (
                 upper, upper, sizes, m.discount, ", ".join(weights), ", ".join(rewards), upper))
-    for name, lines in (("models.rt", models), ("expected.rt", wanted)):
+    for name, lines in (("models.rt", models), ("expected.rt", wanted), ("parts.rt", parted)):
         with open(os.path.join(out, name), "w") as file:
             file.write("\n".join(lines) + "\n")
 

@@ -1,10 +1,9 @@
 -- Leaves that are values.
-use Rattle.std.proofs.Common.{◌≡◌, ℕ, ◌≤◌, true, false, sym, nat_le, unsigned_abs, arith}
+use Rattle.std.proofs.Common.{◌≡◌, ℕ, ◌≤◌, true, nat_le, unsigned_abs, arith}
 use Rattle.std.proofs.lemmas.Bool.{false≢true}
 use Rattle.std.proofs.lemmas.Bool.Decides.{nat_tests}
 use Rattle.spd_scaled.proofs.CallerLemmas.Magnitude.{IsWithin-from_abs}
 use Rattle.spd_cons_core.specs.declared.key.Entry.{Entry}
-use Rattle.spd_model.specs.States.{IsState}
 use Rattle.spd_nodes.specs.declared.leaf.Leaf.{Leaf}
 use Rattle.spd_nodes.specs.declared.leaf.Leaf.TheVariants.{Num, Pair, Act}
 use Rattle.spd_nodes.specs.Shown.{Shown, meaning}

@@ -1,7 +1,7 @@
 //! Building: the lists of nodes of some models' parts, and the fault of some others.
 ghost use Rattle.std.specs.Prelude.{◌≡◌, ◌<◌};
 
-use crate::expected::{ARC_PARTS, COFFEE_PARTS, MIX_PARTS};
+use crate::parts::{ARC, COFFEE, MIX};
 use crate::prepared::{MEMO_SIZE, model_of};
 use crate::values::table_of;
 use crate::wanted::{Parts, Want};
@@ -178,7 +178,7 @@ fn check_parts<L: Ledger>(alloc: Global, parts: &Parts, blank: Blank) -> Result<
 
 #[test]
 fn parts_are_those_of_the_definitions(rt: HostRuntime) -> Result<(), Fail> {
-    for parts in [MIX_PARTS, ARC_PARTS, COFFEE_PARTS] {
+    for parts in [MIX, ARC, COFFEE] {
         check_parts::<Brand>(rt.alloc(), &parts, Blank::new(1))?;
     }
     Ok(())

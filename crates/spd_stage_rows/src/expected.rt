@@ -1,10 +1,10 @@
-//! What building and backing up gives, by the definitions on plain tables: written by the script in `tests/stages`.
+//! What backing up gives, by the definitions on plain tables: written by the script in `tests/stages`.
 use crate::models;
-use crate::wanted::Want::{self, Leaf, Next, Now};
-use crate::wanted::{Backed, Parts};
-
+use crate::wanted::Backed;
+use crate::wanted::Want::{self, Leaf, Now};
+/// The value at the start.
 const KEEP_START: &[Want] = &[Leaf(1000000000), Leaf(0), Now(0, &[0, 1])];
-
+/// Another value.
 const KEEP_SECOND: &[Want] = &[Leaf(-9333333436), Leaf(1666666685), Now(0, &[0, 1])];
 /// Backups of each action, where the value at the start follows, and where another one does.
 pub const KEEP: &[Backed] = &[
@@ -27,9 +27,9 @@ pub const KEEP: &[Backed] = &[
         nodes: 18,
     },
 ];
-
-const MIX_START: &[Want] = &[Leaf(1000000000), Leaf(0), Now(0, &[0, 1, 1])];
-
+/// The value at the start.
+pub const MIX_START: &[Want] = &[Leaf(1000000000), Leaf(0), Now(0, &[0, 1, 1])];
+/// Another value.
 const MIX_SECOND: &[Want] = &[
     Leaf(-9333333436),
     Leaf(1666666685),
@@ -59,27 +59,14 @@ pub const MIX: &[Backed] = &[
 ];
 /// The number of nodes of the functions of building, of the value at the start, and of the first action's backup where it follows.
 pub const MIX_NODES: u32 = 21;
-/// Its parts.
-pub const MIX_PARTS: Parts = Parts {
-    file: models::MIX,
-    sizes: &[3],
-    discount: 500000,
-    weights: &[
-        &[Leaf(333333333333)],
-        &[Leaf(333333333333)],
-        &[Leaf(333333333334)],
-    ],
-    rewards: &[&[Leaf(1000000000), Leaf(0), Now(0, &[0, 1, 1])]],
-    start: MIX_START,
-};
-
+/// The value at the start.
 const DIE_START: &[Want] = &[
     Leaf(0),
     Leaf(400000000),
     Leaf(1000000000),
     Now(0, &[0, 1, 2]),
 ];
-
+/// Another value.
 const DIE_SECOND: &[Want] = &[
     Leaf(-9333333436),
     Leaf(1666666685),
@@ -127,7 +114,7 @@ pub const DIE: &[Backed] = &[
         nodes: 34,
     },
 ];
-
+/// The value at the start.
 const SIXTEEN_START: &[Want] = &[
     Leaf(1000000000),
     Leaf(2000000000),
@@ -161,7 +148,7 @@ const SIXTEEN_START: &[Want] = &[
     Now(1, &[21, 28]),
     Now(0, &[14, 29]),
 ];
-
+/// Another value.
 const SIXTEEN_SECOND: &[Want] = &[
     Leaf(-9333333436),
     Leaf(333333337),
@@ -328,8 +315,8 @@ pub const SIXTEEN: &[Backed] = &[
         nodes: 162,
     },
 ];
-
-const COFFEE_START: &[Want] = &[
+/// The value at the start.
+pub const COFFEE_START: &[Want] = &[
     Leaf(900000000),
     Leaf(1000000000),
     Now(2, &[0, 1]),
@@ -338,7 +325,7 @@ const COFFEE_START: &[Want] = &[
     Now(2, &[3, 4]),
     Now(0, &[2, 5]),
 ];
-
+/// Another value.
 const COFFEE_SECOND: &[Want] = &[
     Leaf(-9333333436),
     Leaf(333333337),
@@ -679,154 +666,9 @@ pub const COFFEE: &[Backed] = &[
         nodes: 199,
     },
 ];
-/// Its parts.
-pub const COFFEE_PARTS: Parts = Parts {
-    file: models::COFFEE,
-    sizes: &[2, 2, 2, 2, 2, 2],
-    discount: 900000,
-    weights: &[
-        &[Leaf(1000000000000), Leaf(0), Now(0, &[0, 1])],
-        &[Leaf(0), Leaf(1000000000000), Now(0, &[0, 1])],
-        &[Leaf(1000000000000), Leaf(0), Now(1, &[0, 1])],
-        &[Leaf(0), Leaf(1000000000000), Now(1, &[0, 1])],
-        &[
-            Leaf(1000000000000),
-            Leaf(0),
-            Now(4, &[1, 0]),
-            Now(3, &[2, 1]),
-            Now(2, &[0, 3]),
-        ],
-        &[
-            Leaf(0),
-            Leaf(1000000000000),
-            Now(4, &[1, 0]),
-            Now(3, &[2, 1]),
-            Now(2, &[0, 3]),
-        ],
-        &[Leaf(1000000000000), Leaf(0), Now(3, &[0, 1])],
-        &[Leaf(0), Leaf(1000000000000), Now(3, &[0, 1])],
-        &[Leaf(1000000000000), Leaf(0), Now(4, &[0, 1])],
-        &[Leaf(0), Leaf(1000000000000), Now(4, &[0, 1])],
-        &[Leaf(100000000000), Leaf(900000000000), Now(5, &[0, 1])],
-        &[Leaf(900000000000), Leaf(100000000000), Now(5, &[0, 1])],
-        &[Leaf(1000000000000), Leaf(0), Now(0, &[0, 1])],
-        &[Leaf(0), Leaf(1000000000000), Now(0, &[0, 1])],
-        &[
-            Leaf(1000000000000),
-            Leaf(0),
-            Leaf(900000000000),
-            Now(5, &[1, 2]),
-            Now(1, &[0, 3]),
-        ],
-        &[
-            Leaf(0),
-            Leaf(1000000000000),
-            Leaf(100000000000),
-            Now(5, &[1, 2]),
-            Now(1, &[0, 3]),
-        ],
-        &[Leaf(1000000000000), Leaf(0), Now(2, &[0, 1])],
-        &[Leaf(0), Leaf(1000000000000), Now(2, &[0, 1])],
-        &[Leaf(1000000000000), Leaf(0), Now(3, &[0, 1])],
-        &[Leaf(0), Leaf(1000000000000), Now(3, &[0, 1])],
-        &[Leaf(1000000000000), Leaf(0), Now(4, &[0, 1])],
-        &[Leaf(0), Leaf(1000000000000), Now(4, &[0, 1])],
-        &[Leaf(1000000000000), Leaf(0), Now(5, &[0, 1])],
-        &[Leaf(0), Leaf(1000000000000), Now(5, &[0, 1])],
-        &[
-            Leaf(1000000000000),
-            Leaf(800000000000),
-            Leaf(0),
-            Now(5, &[1, 2]),
-            Now(1, &[3, 2]),
-            Now(0, &[0, 4]),
-        ],
-        &[
-            Leaf(0),
-            Leaf(200000000000),
-            Leaf(1000000000000),
-            Now(5, &[1, 2]),
-            Now(1, &[3, 2]),
-            Now(0, &[0, 4]),
-        ],
-        &[Leaf(0)],
-        &[Leaf(1000000000000)],
-        &[Leaf(1000000000000), Leaf(0), Now(2, &[0, 1])],
-        &[Leaf(0), Leaf(1000000000000), Now(2, &[0, 1])],
-        &[Leaf(1000000000000), Leaf(0), Now(3, &[0, 1])],
-        &[Leaf(0), Leaf(1000000000000), Now(3, &[0, 1])],
-        &[Leaf(1000000000000), Leaf(0), Now(4, &[0, 1])],
-        &[Leaf(0), Leaf(1000000000000), Now(4, &[0, 1])],
-        &[Leaf(1000000000000), Leaf(0), Now(5, &[0, 1])],
-        &[Leaf(0), Leaf(1000000000000), Now(5, &[0, 1])],
-        &[Leaf(1000000000000), Leaf(0), Now(0, &[0, 1])],
-        &[Leaf(0), Leaf(1000000000000), Now(0, &[0, 1])],
-        &[Leaf(1000000000000), Leaf(0), Now(1, &[0, 1])],
-        &[Leaf(0), Leaf(1000000000000), Now(1, &[0, 1])],
-        &[Leaf(1000000000000), Leaf(0), Now(2, &[0, 1])],
-        &[Leaf(0), Leaf(1000000000000), Now(2, &[0, 1])],
-        &[Leaf(1000000000000), Leaf(0), Now(3, &[0, 1])],
-        &[Leaf(0), Leaf(1000000000000), Now(3, &[0, 1])],
-        &[
-            Leaf(1000000000000),
-            Leaf(900000000000),
-            Leaf(0),
-            Now(5, &[1, 2]),
-            Now(4, &[0, 3]),
-        ],
-        &[
-            Leaf(0),
-            Leaf(100000000000),
-            Leaf(1000000000000),
-            Now(5, &[1, 2]),
-            Now(4, &[0, 3]),
-        ],
-        &[Leaf(1000000000000), Leaf(0), Now(5, &[0, 1])],
-        &[Leaf(0), Leaf(1000000000000), Now(5, &[0, 1])],
-    ],
-    rewards: &[
-        &[
-            Leaf(850000000),
-            Leaf(950000000),
-            Now(2, &[0, 1]),
-            Leaf(-50000000),
-            Leaf(50000000),
-            Now(2, &[3, 4]),
-            Now(0, &[2, 5]),
-        ],
-        &[
-            Leaf(800000000),
-            Leaf(900000000),
-            Now(2, &[0, 1]),
-            Leaf(-100000000),
-            Leaf(0),
-            Now(2, &[3, 4]),
-            Now(0, &[2, 5]),
-        ],
-        &[
-            Leaf(900000000),
-            Leaf(1000000000),
-            Now(2, &[0, 1]),
-            Leaf(0),
-            Leaf(100000000),
-            Now(2, &[3, 4]),
-            Now(0, &[2, 5]),
-        ],
-        &[
-            Leaf(900000000),
-            Leaf(1000000000),
-            Now(2, &[0, 1]),
-            Leaf(0),
-            Leaf(100000000),
-            Now(2, &[3, 4]),
-            Now(0, &[2, 5]),
-        ],
-    ],
-    start: COFFEE_START,
-};
-
-const ARC_START: &[Want] = &[Leaf(1000000000), Leaf(0), Now(0, &[0, 1])];
-
+/// The value at the start.
+pub const ARC_START: &[Want] = &[Leaf(1000000000), Leaf(0), Now(0, &[0, 1])];
+/// Another value.
 const ARC_SECOND: &[Want] = &[
     Leaf(-9333333436),
     Leaf(9333333436),
@@ -889,17 +731,3 @@ pub const ARC: &[Backed] = &[
         nodes: 30,
     },
 ];
-/// Its parts.
-pub const ARC_PARTS: Parts = Parts {
-    file: models::ARC,
-    sizes: &[2, 2],
-    discount: 500000,
-    weights: &[
-        &[Leaf(1000000000000), Leaf(0), Next(1, &[0, 1])],
-        &[Leaf(0), Leaf(1000000000000), Next(1, &[0, 1])],
-        &[Leaf(1000000000000), Leaf(0), Now(1, &[0, 1])],
-        &[Leaf(0), Leaf(1000000000000), Now(1, &[0, 1])],
-    ],
-    rewards: &[&[Leaf(1000000000), Leaf(0), Now(0, &[0, 1])]],
-    start: ARC_START,
-};

@@ -13,6 +13,8 @@ mod limits;
 #[cfg(test)]
 mod models;
 #[cfg(test)]
+mod parts;
+#[cfg(test)]
 mod prepared;
 #[cfg(test)]
 mod values;
