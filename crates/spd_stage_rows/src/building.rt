@@ -1,10 +1,14 @@
-//! Building: the first fault of some models.
+//! Building: the lists of nodes of some models' parts, and the fault of some others.
 ghost use Rattle.std.specs.Prelude.{◌≡◌, ◌<◌};
 
+use crate::parts::{ARC, COFFEE, MIX};
+use crate::prepared::{MEMO_SIZE, model_of};
+use crate::values::table_of;
+use crate::wanted::{Parts, Want};
 use spd_build::{BuildFault, Built, build, layout_of};
+use spd_frozen::{Frozen, Mixed, MixedNode, Node};
 use spd_model::Model;
-use spd_nodes::{Alone, Steps};
-use spd_reader::read_model;
+use spd_nodes::{Alone, Leaf, Steps};
 use std::alloc::Global;
 use std::marker::Brand;
 use std::sync::ledger::{Blank, Ledger};
@@ -65,21 +69,6 @@ reward (x (yes (1000000000)) (no (-1000000000)))
 discount 0.5
 tolerance 0.1";
 
-/// How many answers each table of an operation keeps.
-const MEMO_SIZE: usize = 1_000;
-
-/// The model of a file.
-fn model_of(alloc: Global, file: &str) -> Result<Model, Fail> {
-    let bytes = file.as_bytes();
-    if bytes.len() > 4_000_000 {
-        return Err(Fail::new("too long"));
-    }
-    match read_model(alloc, bytes) {
-        Ok(model) => Ok(model),
-        Err(unread) => Err(Fail::new(format_args!("{unread:?}"))),
-    }
-}
-
 /// What the model's file is built into, over a forest of so many entries.
 fn built_alone<L: Ledger>(
     alloc: Global,
@@ -94,6 +83,105 @@ fn built_alone<L: Ledger>(
     let mut steps = Steps::<L>::new(blank);
     let mut forest = Alone::new(alloc, layout_of(alloc, model)?, limit)?;
     build(alloc, model, &mut forest, MEMO_SIZE, &mut steps)
+}
+
+/// Whether a node is what is wanted.
+fn is_node(node: &Node, want: &Want) -> bool {
+    match (node, want) {
+        (Node::Leaf(Leaf::Num(x)), Want::Leaf(y)) => x == y,
+        (Node::Branch { var, kids }, Want::Now(v, k)) => var == v && kids.as_slice() == *k,
+        _ => false,
+    }
+}
+
+/// The same over present and next values.
+fn is_mixed_node(node: &MixedNode, want: &Want) -> bool {
+    match (node, want) {
+        (MixedNode::Leaf(Leaf::Num(x)), Want::Leaf(y)) => x == y,
+        (MixedNode::Branch { var, primed, kids }, Want::Now(v, k)) => {
+            !*primed && var == v && kids.as_slice() == *k
+        }
+        (MixedNode::Branch { var, primed, kids }, Want::Next(v, k)) => {
+            *primed && var == v && kids.as_slice() == *k
+        }
+        _ => false,
+    }
+}
+
+/// Whether a list has exactly the nodes that are wanted, in order.
+fn is_list(nodes: &[Node], want: &[Want]) -> bool {
+    nodes.len() == want.len() && nodes.iter().zip(want).all(|(n, w)| is_node(n, w))
+}
+
+/// The same over present and next values.
+fn is_mixed_list(list: &Mixed, want: &[Want]) -> bool {
+    let nodes = list.nodes();
+    nodes.len() == want.len() && nodes.iter().zip(want).all(|(n, w)| is_mixed_node(n, w))
+}
+
+/// Fails where the weights are not the lists that are wanted, in order.
+fn check_weights(lists: &[Mixed], wants: &[&[Want]]) -> Result<(), Fail> {
+    if lists.len() != wants.len() {
+        return Err(Fail::new(format_args!("{} weights", lists.len())));
+    }
+    for (at, (list, want)) in lists.iter().zip(wants).enumerate() {
+        if !is_mixed_list(list, want) {
+            return Err(Fail::new(format_args!("weight {at}: {list:?}")));
+        }
+    }
+    Ok(())
+}
+
+/// The same of the rewards.
+fn check_rewards(lists: &[Frozen], wants: &[&[Want]]) -> Result<(), Fail> {
+    if lists.len() != wants.len() {
+        return Err(Fail::new(format_args!("{} rewards", lists.len())));
+    }
+    for (at, (list, want)) in lists.iter().zip(wants).enumerate() {
+        if !is_list(list.nodes(), want) {
+            return Err(Fail::new(format_args!("reward {at}: {list:?}")));
+        }
+    }
+    Ok(())
+}
+
+/// Fails where the value at the start, the sizes or the discount are others than are wanted, or where the value is not the reduced diagram
+/// of its table.
+fn check_start(alloc: Global, model: &Model, built: &Built, parts: &Parts) -> Result<(), Fail> {
+    if !is_list(built.start.nodes(), parts.start) {
+        return Err(Fail::new(format_args!("start: {:?}", built.start)));
+    }
+    if built.sizes.as_slice() != parts.sizes || built.g != parts.discount {
+        return Err(Fail::new("sizes or discount"));
+    }
+    let table = table_of(alloc, model, parts.start)?;
+    if built.start.nodes() != table.nodes() {
+        return Err(Fail::new("start is not its table's diagram"));
+    }
+    Ok(())
+}
+
+/// Fails where a model is built into other parts than are wanted.
+fn check_parts<L: Ledger>(alloc: Global, parts: &Parts, blank: Blank) -> Result<(), Fail>
+    requires name { blank.name ≡ L.name }
+    requires parts { blank.parts ≡ L.parts }
+    requires one { 0 < blank.parts }
+{
+    let model = model_of(alloc, parts.file)?;
+    let Ok(built) = built_alone::<L>(alloc, &model, 10_000, blank) else {
+        return Err(Fail::new("not built"));
+    };
+    check_weights(&built.weights, parts.weights)?;
+    check_rewards(&built.rewards, parts.rewards)?;
+    check_start(alloc, &model, &built, parts)
+}
+
+#[test]
+fn parts_are_those_of_the_definitions(rt: HostRuntime) -> Result<(), Fail> {
+    for parts in [MIX, ARC, COFFEE] {
+        check_parts::<Brand>(rt.alloc(), &parts, Blank::new(1))?;
+    }
+    Ok(())
 }
 
 /// A fault that is told.

@@ -1,0 +1,4 @@
+mod BuiltLaws
+mod CountLaws
+mod StageLaws
+mod ValueLaws
