@@ -2,3 +2,5 @@ pub mod Jobs
 pub mod Waves
 pub mod Backups
 pub mod Turn
+pub mod Parts
+pub mod Attempts

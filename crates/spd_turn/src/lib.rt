@@ -11,9 +11,12 @@
 mod backups;
 mod ending;
 mod job;
+mod parts;
 mod telling;
+mod trying;
 mod waves;
 
 pub use backups::backup_all;
 pub use ending::{Finished, finish};
+pub use trying::{Attempt, try_turn};
 pub use waves::backup_actions;
