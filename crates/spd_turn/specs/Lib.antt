@@ -4,3 +4,4 @@ pub mod Backups
 pub mod Turn
 pub mod Parts
 pub mod Attempts
+pub mod Runs

@@ -12,11 +12,13 @@ mod backups;
 mod ending;
 mod job;
 mod parts;
+mod rooms;
 mod telling;
 mod trying;
 mod waves;
 
 pub use backups::backup_all;
 pub use ending::{Finished, finish};
+pub use rooms::{TurnFault, turn_in_room};
 pub use trying::{Attempt, try_turn};
 pub use waves::backup_actions;
