@@ -35,6 +35,13 @@ bounds-grow m a value s t b g h = record {
   high_expected = expected-grows _ m a value s t (length m.vars) g h.high_expected;
 }
 
+-- a forest that grew knows them too
+pub backed-grow : (m : Process) (value : List ℕ → ℤ) (s t : Shown) (bs : List Bounds) (actions : List Action) → Grows s t → AreBackedUp m value s bs actions → AreBackedUp m value t bs actions
+backed-grow m value s t [] [] g h = tt
+backed-grow m value s t [] (c ∷ actions) g h = absurd h
+backed-grow m value s t (d ∷ bs) [] g h = absurd h
+backed-grow m value s t (d ∷ bs) (c ∷ actions) g h = (bounds-grow m c value s t d g h.0, backed-grow m value s t bs actions g h.1)
+
 backed-push : (m : Process) (value : List ℕ → ℤ) (s t : Shown) (bs : List Bounds) (actions : List Action) (b : Bounds) (a : Action) → Grows s t → AreBackedUp m value s bs actions → AreBounds m a value t b
     → AreBackedUp m value t (bs ++ b ∷ []) (actions ++ a ∷ [])
 backed-push m value s t [] [] b a g h k = (k, tt)

@@ -1,9 +1,13 @@
+mod AttemptLaws
 mod BackupLaws
 mod BoundLaws
 pub mod CallerLemmas
+mod CountLaws
 mod FinishLaws
 pub mod JobLaws
+mod PlainLaws
 mod Rows
 pub mod SplitLaws
+mod ThawLaws
 mod TurnLaws
 pub mod WaveLaws

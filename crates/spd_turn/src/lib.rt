@@ -6,14 +6,21 @@
 //!
 //! It ends a turn (`finish`), over any forest: of the bounds of all actions it makes the best, the value of the next turn and the
 //! residual, and writes down what is told of the turn (SPUDD, UAI 1999).
+//!
+//! `try_turn` makes a whole turn in a table of its own, and `turn_in_room` in one that has room enough, up to the node limit.
 #![tactic(auto)]
 
 mod backups;
 mod ending;
 mod job;
+mod parts;
+mod rooms;
 mod telling;
+mod trying;
 mod waves;
 
 pub use backups::backup_all;
 pub use ending::{Finished, finish};
+pub use rooms::{TurnFault, turn_in_room};
+pub use trying::{Attempt, try_turn};
 pub use waves::backup_actions;
