@@ -6,6 +6,8 @@
 //!
 //! It ends a turn (`finish`), over any forest: of the bounds of all actions it makes the best, the value of the next turn and the
 //! residual, and writes down what is told of the turn (SPUDD, UAI 1999).
+//!
+//! `try_turn` makes a whole turn in a table of its own, and `turn_in_room` in one that has room enough, up to the node limit.
 #![tactic(auto)]
 
 mod backups;
