@@ -153,6 +153,57 @@ impl<'a> Run<'a> {
         &self.iterate
     }
 
+    /// Goes on to the next turn, where the run doesn't stop at the present one: it is done where the stop rule holds, and else it is at the
+    /// limit at turn `options.turns`.
+    ///
+    /// NodeLimit comes only where the next turn has more than `options.nodes` nodes, and Memory may come at any time. Where it answers an
+    /// error or that it stops, the run is as before.
+    pub fn advance<G: Gate, R: Threads + Sync>(
+        &mut self,
+        rt: &R,
+        alloc: Global,
+        gate: &G,
+    ) -> Result<Advance, TurnFault>
+        ensures { AnswersRun self.old self.new result }
+    {
+        // Reading a field tells the proof what every model keeps.
+        let _vars = &self.model.vars;
+        if is_done(self.model, self.iterate.residual.r) {
+            return Ok(Advance::Stopped(Why::Done));
+        }
+        let turn = self.iterate.turn;
+        if turn == self.options.turns {
+            return Ok(Advance::Stopped(Why::Limit));
+        }
+        let room = room_after(self.seat.published(), self.options.nodes);
+        let Attempt {
+            finished,
+            cons,
+            seat,
+        } = make_turn::<_, _, Brand>(
+            rt,
+            alloc,
+            gate,
+            self.model,
+            self.built,
+            &self.next,
+            turn + 1,
+            room,
+            self.options,
+            Blank::new(1),
+        )?;
+        let Finished { iterate, next } = finished;
+        let iterate = match Arc::new(alloc, iterate) {
+            Ok(iterate) => iterate,
+            Err(_) => return Err(TurnFault::Memory),
+        };
+        self.iterate = iterate;
+        self.next = next;
+        self.cons = cons;
+        self.seat = seat;
+        Ok(Advance::Turned)
+    }
+
     /// The table of the present turn.
     pub fn cons(&self) -> &Cons
         ensures { result.now ≡ self.now.table }
