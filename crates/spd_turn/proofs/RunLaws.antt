@@ -1,5 +1,7 @@
 -- A run that begins, and one that goes on.
-use Rattle.std.proofs.Common.{◌≡◌, ℕ, suc, ◌+◌, ◌<◌, ◌≤◌, ◌^◌, ◌⊎◌, inl, inr, false, Bool, List, map, ℤ, pos, sym, ◌∙◌, ap, subst, arith}
+use Rattle.std.proofs.Common.{◌≡◌, ℕ, suc, ◌+◌, ◌<◌, ◌≤◌, ◌^◌, ◌⊎◌, inl, inr, false, Bool, List, map, ℤ, pos, FitsSigned, to_z, of_z, sym, ◌∙◌, ap, subst, arith}
+use Rattle.std.proofs.lemmas.Int.{ints, to_z-of_z}
+use mir.Syntax.{w128}
 use Rattle.spd_scaled.specs.Scaled.{IsWithin}
 use Rattle.spd_model.specs.declared.options.Options.{Options}
 use Rattle.spd_model.specs.Process.{Process}
@@ -8,7 +10,7 @@ use Rattle.spd_model.specs.Chances.{IsValid, reward_of}
 use Rattle.spd_model.specs.Numbers.{greatest}
 use Rattle.spd_model.specs.Options.{AreOptions}
 use Rattle.spd_model.specs.States.{sizes, IsState, at, rank, table_of}
-use Rattle.spd_model.specs.Turns.{rule_at}
+use Rattle.spd_model.specs.Turns.{rule_at, stops_at}
 use Rattle.spd_model.proofs.CallerLemmas.Bounded.{residual_within}
 use Rattle.spd_model.proofs.CallerLemmas.StateOrder.{get_or-table_of, get_or-states, rank_below}
 use Rattle.spd_nodes.specs.declared.leaf.Leaf.TheVariants.{Num}
@@ -72,3 +74,15 @@ pub run-within : (r : RunValue) → IsLawful r.process → IsRun r → IsWithin 
 run-within r law h =
     subst (IsWithin (pos (10 ^ 31))) (sym h.told.residual.number)
     (residual_within r.process law h.valid (value_of_turn r.process r.options.span r.iterate.turn) (turn-bounded r.process law h.valid r.options.span r.iterate.turn))
+
+-- the residual as the program holds it is that number
+pub told-fits : (r : RunValue) (x : Iterate) → IsLawful r.process → IsRun r → x ≡ r.iterate → to_z w128 (of_z w128 x.residual.r) ≡ x.residual.r
+told-fits r x law h e =
+    let within : IsWithin (pos (10 ^ 31)) x.residual.r = subst (λ (y : Iterate). IsWithin (pos (10 ^ 31)) y.residual.r) (sym e) (run-within r law h) in
+    let fits : FitsSigned w128 x.residual.r = omega (arith, ints, within.low, within.high) in
+    to_z-of_z w128 x.residual.r fits
+
+-- what is found of the present turn's residual is whether the stop rule holds at that turn
+pub rule-told : (r : RunValue) (x : Iterate) → IsRun r → x ≡ r.iterate → (z : ℤ) → z ≡ x.residual.r → (b : Bool) → b ≡ stops_at r.process z
+    → b ≡ rule_at r.process r.options.span r.iterate.turn
+rule-told r x h e z f b found = found ∙ ap (stops_at r.process) (f ∙ ap (λ (y : Iterate). y.residual.r) e ∙ h.told.residual.number)

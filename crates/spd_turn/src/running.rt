@@ -166,9 +166,10 @@ impl<'a> Run<'a> {
     ) -> Result<Advance, TurnFault>
         ensures { AnswersRun self.old self.new result }
     {
+        let model = self.model;
         // Reading a field tells the proof what every model keeps.
-        let _vars = &self.model.vars;
-        if is_done(self.model, self.iterate.residual.r) {
+        let _vars = &model.vars;
+        if is_done(model, self.iterate.residual.r) {
             return Ok(Advance::Stopped(Why::Done));
         }
         let turn = self.iterate.turn;
@@ -184,7 +185,7 @@ impl<'a> Run<'a> {
             rt,
             alloc,
             gate,
-            self.model,
+            model,
             self.built,
             &self.next,
             turn + 1,
