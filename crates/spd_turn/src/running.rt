@@ -1,8 +1,7 @@
 //! A run of value iteration.
 
-ghost use Rattle.std.specs.Prelude.{◌≡◌, ◌≤◌, ◌<◌, ◌^◌, pos, IfOk, IfErr};
+ghost use Rattle.std.specs.Prelude.{◌≡◌, ◌≤◌, ◌<◌, IfOk, IfErr};
 ghost use Rattle.std.specs.Arc.{arc_value};
-ghost use Rattle.spd_scaled.specs.Scaled.{IsWithin};
 ghost use Rattle.spd_model.specs.Chances.{IsValid};
 ghost use Rattle.spd_model.specs.Options.{AreOptions};
 ghost use Rattle.spd_build.specs.Built.{IsBuilt, frozen_numbers};
@@ -128,7 +127,16 @@ impl<'a> Run<'a> {
             cons,
             seat,
         } = make_turn::<_, _, Brand>(
-            rt, alloc, gate, model, built, &built.start, 0, room, options, Blank::new(1),
+            rt,
+            alloc,
+            gate,
+            model,
+            built,
+            &built.start,
+            0,
+            room,
+            options,
+            Blank::new(1),
         )?;
         let Finished { iterate, next } = finished;
         match Arc::new(alloc, iterate) {

@@ -1,4 +1,4 @@
-use Rattle.std.proofs.Common.{◌≡◌, ℕ, suc, ◌+◌, ◌<◌, ◌^◌, true, false, pos, to_z, of_z, refl, sym, ◌∙◌, ap, subst, arith}
+use Rattle.std.proofs.Common.{◌≡◌, suc, ◌+◌, ◌<◌, ◌^◌, true, false, pos, to_z, of_z, refl, sym, ◌∙◌, ap, subst, arith}
 use mir.Syntax.{w128}
 use Rattle.std.specs.Arc.{arc_value}
 use Rattle.spd_scaled.specs.Scaled.{IsWithin}
@@ -36,8 +36,7 @@ returns-then-turn-self g c =
     let rule : c.is_done.result ≡ rule_at r.process r.options.span r.iterate.turn = rule-told r c.deref.result.now c.self.invariant c.deref.ensures (to_z w128 (of_z w128 c.deref.result.now.residual.r)) fits c.is_done.result c.is_done.ensures in
     let no : rule_at r.process r.options.span r.iterate.turn ≡ false = sym rule ∙ c.if-is_done.false in
     let now : c.deref-2.result.now.turn ≡ r.iterate.turn = ap (λ (x : Iterate). x.turn) c.deref-2.ensures in
-    let last : r.iterate.turn ≡ r.options.turns = sym now ∙ c.if-turn-self.true in
-    (
+    let last : r.iterate.turn ≡ r.options.turns = sym now ∙ c.if-turn-self.true in (
       refl,
       subst (λ (r : RunValue). rule_at r.process r.options.span r.iterate.turn ≡ false) c.self.view_is no,
       subst (λ (r : RunValue). r.iterate.turn ≡ r.options.turns) c.self.view_is last,
@@ -73,8 +72,7 @@ returns g c =
     let i = c.self.invariant in
     let next : (arc_value c.in-Ok.iterate).turn ≡ r.iterate.turn + 1 =
     ap (λ (x : Iterate). x.turn) c.in-Ok.ensures.ok ∙ c.in_ok-finished.ensures.ok.finished.told.number ∙ ap (λ n. n + 1) now in
-    let less : r.iterate.turn < r.options.turns = omega (arith, i.within, now, c.if-turn-self.false) in
-    (
+    let less : r.iterate.turn < r.options.turns = omega (arith, i.within, now, c.if-turn-self.false) in (
       record {
         same = ap (λ (r : RunValue). r.process) c.self.view_is;
         set = ap (λ (r : RunValue). r.options) c.self.view_is;
