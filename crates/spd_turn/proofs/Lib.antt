@@ -7,6 +7,7 @@ mod FinishLaws
 pub mod JobLaws
 mod PlainLaws
 mod Rows
+mod RunLaws
 pub mod SplitLaws
 mod ThawLaws
 mod TurnLaws

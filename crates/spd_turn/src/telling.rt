@@ -2,7 +2,7 @@
 
 ghost use Rattle.std.specs.Prelude.{◌≡◌, ◌-◌, ◌^◌, ◌<ℤ◌, pos, IfOk};
 ghost use Rattle.spd_scaled.specs.Scaled.{IsWithin};
-ghost use Rattle.spd_model.specs.Turns.{error_of as error_of_residual};
+ghost use Rattle.spd_model.specs.Turns.{stops_at, error_of as error_of_residual};
 ghost use Rattle.spd_turn.specs.Turn.{IsPresent, IsToldOf};
 
 use crate::ending::Finished;
@@ -29,6 +29,14 @@ fn error_of(model: &Model, residual: i128) -> i128
     ensures { result ≡ error_of_residual model.now residual }
 {
     ceil_div(residual * DISCOUNT_ONE, discount_left(model))
+}
+
+/// Whether a run stops at a turn with this residual.
+pub fn is_done(model: &Model, residual: i128) -> bool
+    requires { IsWithin (pos (10 ^ 31)) residual }
+    ensures { result ≡ stops_at model.now residual }
+{
+    2 * residual * DISCOUNT_ONE <= model.tolerance * discount_left(model)
 }
 
 /// What is told of a turn with these diagrams of its value, of its policy and of the next turn's value, and with this residual.
