@@ -6,7 +6,7 @@ compares what comes with the references.
 
 A refused file has status 5, one line on standard error, and nothing on standard output. What has to come of a lawful file is computed
 by tests/small/reference.py. The program leaves no file behind."""
-import importlib.util, os, re, subprocess, sys, tempfile
+import importlib.util, math, os, re, subprocess, sys, tempfile
 
 sys.dont_write_bytecode = True
 here = os.path.dirname(os.path.abspath(__file__))
@@ -64,7 +64,14 @@ def run_cases(program, report):
         if words != (None if refusal is None else str(refusal)):
             report.failed = True
             print("FAILED  %s: the reference says %s, the table %s" % (case, refusal, words))
-        report.compare(case, program.run(data), wanted(data))
+        want = wanted(data)
+        if want[0] == 13:
+            # More states than tables take: no reference computes what diagrams come to, but they aren't refused.
+            report.compare("plain on " + case, program.run(data, (), "plain"), want)
+            found = program.run(data)
+            report.compare(case, found, found if found[0] in (0, 8, 9) else (0, "", ""))
+        else:
+            report.compare(case, program.run(data), want)
     print("done    %d files, refused and lawful" % number)
 
 
@@ -94,13 +101,18 @@ def run_page(program, report):
 
 
 def run_examples(program, report):
-    """The examples, with each command that can run them."""
-    names = sorted(os.listdir(os.path.join(here, "..", "..", "examples")))
-    for name in [name for name in names if name.endswith(".spudd")]:
-        data = small.read(os.path.join(here, "..", "..", "examples", name))
-        want = wanted(data)
-        for command in ("solve", "plain"):
-            report.compare("%s on examples/%s" % (command, name), program.run(data, (), command), want)
+    """The examples: with few states what the reference computes; with more, that both commands print the same up to turn 3; and with more than tables
+    take, that `plain` says so."""
+    folder = os.path.join(here, "..", "..", "examples")
+    for name in sorted(name for name in os.listdir(folder) if name.endswith(".spudd")):
+        data = small.read(os.path.join(folder, name))
+        states = math.prod(len(values) for values in small.Model(data).values)
+        words = ("--turns", "3") if states > 100 else ()
+        plain = program.run(data, words, "plain")
+        want = wanted(data) if states <= 100 or states > 4096 else plain
+        report.compare("plain on examples/" + name, plain, want)
+        if states <= 4096:
+            report.compare("solve on examples/" + name, program.run(data, words, "solve"), want)
     print("done    the examples")
 
 

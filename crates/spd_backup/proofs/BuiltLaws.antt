@@ -8,7 +8,7 @@ use Rattle.spd_model.specs.declared.process.Action.{Action}
 use Rattle.spd_model.specs.Process.{Process}
 use Rattle.spd_model.specs.Chances.{IsValid, reward_of}
 use Rattle.spd_model.specs.Lawful.{IsLawful}
-use Rattle.spd_model.specs.States.{sizes, IsState}
+use Rattle.spd_model.specs.States.{sizes}
 use Rattle.spd_nodes.specs.declared.forest.StoreFault.{StoreFault}
 use Rattle.spd_nodes.specs.declared.leaf.Leaf.TheVariants.{Num, Act}
 use Rattle.spd_nodes.specs.Levels.{AllPositive, slots}

@@ -13,7 +13,7 @@ use Rattle.spd_nodes.specs.Levels.{IsSlot, slots, slot_of, passes, after}
 use Rattle.spd_nodes.specs.Refs.{AddsRef}
 use Rattle.spd_nodes.specs.Shown.{Shown, IsSound, StandsFor, meaning}
 use Rattle.spd_nodes.specs.States.{Function, Agree, point}
-use Rattle.spd_nodes.specs.Trees.{Tree, Ends, Tests, IsFrom, IsAt, IsReduced, value_at}
+use Rattle.spd_nodes.specs.Trees.{Tree, Ends, Tests, IsFrom, IsReduced, value_at}
 use Rattle.spd_nodes.proofs.CallerLemmas.{Parts, after_above, parts, passes-before, passes-past, stands-for}
 use Rattle.spd_restrict.specs.Restricted.{restricted}
 use Rattle.spd_restrict.proofs.CallerLemmas.{set-primed, RootFrom, root-from, root-at}

@@ -1,13 +1,12 @@
 -- Tables go on to hold what they hold while the forest grows.
-use Rattle.std.proofs.Common.{◌≡◌, ℕ, ◌<◌, List, [], ◌∷◌, length, map, get_or, set, refl, sym, ◌∙◌, subst, arith, inl, inr, Some, None, Ok, true, All}
+use Rattle.std.proofs.Common.{◌≡◌, ℕ, ◌<◌, List, [], length, map, get_or, set, sym, ◌∙◌, subst, arith, inl, inr, Some, None, Ok, true, All}
 use Rattle.std.specs.Prelude.{Option, IfSome, IsSomeAnd, Contains}
 use Rattle.std.proofs.lemmas.Bool.{cases_eq}
 use Rattle.std.proofs.lemmas.List.{length-set, get_or-set_same, get_or-set_other}
-use Rattle.std.proofs.lemmas.List.Elements.{All-head, All-tail}
 use Rattle.spd_cons_core.specs.declared.key.Entry.{Entry}
 use Rattle.spd_memo.specs.Kept.{KeptAnswers}
 use Rattle.spd_nodes.specs.Shown.{Shown, Grows, StandsFor, MakesDiagram, meaning}
-use Rattle.spd_nodes.specs.States.{Function, function_of}
+use Rattle.spd_nodes.specs.States.{Function}
 use Rattle.spd_apply.proofs.CallerLemmas.{answers-grow}
 use Rattle.spd_gather.specs.Lists.{AreKnown}
 use Rattle.spd_gather.proofs.CallerLemmas.{known-stay}
@@ -15,11 +14,12 @@ use Rattle.spd_restrict.specs.Primed.{primed}
 use Rattle.spd_weigh.specs.declared.way.Way.{Way}
 use Rattle.spd_weigh.specs.Weighing.{summed_out}
 use Rattle.spd_weigh.proofs.CallerLemmas.{discounts-grow, sums-grow, sums-none}
+use Rattle.spd_build.specs.Building.{HoldAdds}
 use Rattle.spd_backup.specs.declared.tables.Tables.{Tables}
 use Rattle.spd_backup.specs.declared.tables.WayTables.{WayTables}
 use Rattle.spd_backup.specs.declared.tables.LastSum.{LastSum}
 use Rattle.spd_backup.specs.declared.tables.SumTables.{SumTables}
-use Rattle.spd_backup.specs.Keeping.{IsSumOf, IsSummed, HoldVariable, HoldEachSum, HoldWay, HoldAdds, HoldAll, IsPrimed}
+use Rattle.spd_backup.specs.Keeping.{IsSumOf, IsSummed, HoldVariable, HoldEachSum, HoldWay, HoldAll, IsPrimed}
 use Rattle.spd_nodes.proofs.CallerLemmas.{stands-grows, meaning-grows, meanings-grow}
 
 -- a forest that grew shows the same sum of what it knew

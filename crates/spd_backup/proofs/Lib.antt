@@ -8,4 +8,5 @@ mod FreeLaws
 mod KeepingLaws
 mod PartLaws
 mod Rows
+mod SameTreeLaws
 mod StepLaws

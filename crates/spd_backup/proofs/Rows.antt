@@ -1,6 +1,6 @@
 -- The definitions on a die that its only action throws, with the chances 0.333333333333 twice and 0.333333333334, a reward of 1 at its
 -- first value, and the discount 0.5.
-use Rattle.std.proofs.Common.{◌≡◌, ℕ, ◌==◌, true, false, cond, List, [], ◌∷◌, length, map, refl, inl, inr, ℤ, pos, codes, slice_index, None}
+use Rattle.std.proofs.Common.{arith, ◌≡◌, ℕ, ◌==◌, true, false, cond, List, [], ◌∷◌, length, map, refl, ℤ, pos, codes, slice_index, None}
 use Rattle.spd_cons_core.specs.declared.key.Entry.{Entry}
 use Rattle.spd_model.specs.declared.tree.Tree.{Tree, Leaf, Branch}
 use Rattle.spd_model.specs.declared.tree.Tree.TheBlock.{shape-the_row-Tree-0, hidden-the_row-Tree-0}
@@ -11,7 +11,7 @@ use Rattle.spd_model.specs.Process.{Process}
 use Rattle.spd_nodes.specs.declared.leaf.Leaf.TheVariants.{Num}
 use Rattle.spd_nodes.specs.Trees.{Ends, Tests}
 use Rattle.spd_weigh.specs.declared.way.Way.TheVariants.{Down, Up}
-use Rattle.spd_backup.specs.Exact.{HasSureLeaves}
+use Rattle.spd_backup.specs.Exact.{HasExactLeaves}
 use Rattle.spd_backup.specs.Expected.{expected, bound, backup_functions}
 use Rattle.spd_backup.specs.FromBuilt.{process_functions}
 use Rattle.spd_backup.specs.Thawing.{weights_in}
@@ -65,6 +65,9 @@ parts-of-all = refl
 second-weights : map (λ (r : Entry). r.0) (weights_in (2 ∷ 3 ∷ []) (map (λ n. record { 0 = n }) (numbers_below 10)) 1 1) ≡ 7 ∷ 8 ∷ 9 ∷ []
 second-weights = refl
 
--- a tree whose leaves are one and 0
-sure-leaves : HasSureLeaves (Tests 0 (Ends (Num (pos 1000000000000))) (Ends (Num (pos 0))))
-sure-leaves = (inr refl, inl refl)
+-- a tree whose leaves are one and 0 as they stand, and one whose leaves are 0.9 and 0.1 ten times
+sure-leaves : HasExactLeaves (record { times = 1; by = 1000000000000 }) (Tests 0 (Ends (Num (pos 1000000000000))) (Ends (Num (pos 0))))
+sure-leaves = (record { some = omega arith; whole = refl }, record { some = omega arith; whole = refl })
+
+tenths : HasExactLeaves (record { times = 10; by = 1000000000000 }) (Tests 0 (Ends (Num (pos 900000000000))) (Ends (Num (pos 100000000000))))
+tenths = (record { some = omega arith; whole = refl }, record { some = omega arith; whole = refl })

@@ -1,17 +1,14 @@
 -- What the tables of a backup hold.
-use Rattle.std.specs.Prelude.{◌≡◌, ℕ, ◌<◌, List, true, length, map, slice_index_or, ◌+ℤ◌, IfSome}
+use Rattle.std.specs.Prelude.{◌≡◌, ℕ, ◌<◌, List, true, length, map, slice_index_or, IfSome}
 use Rattle.spd_cons_core.specs.declared.key.Entry.{Entry}
-use Rattle.spd_memo.specs.Kept.{KeptAnswers}
 use Rattle.spd_nodes.specs.Shown.{Shown, StandsFor, meaning}
-use Rattle.spd_apply.specs.Applied.{applied}
-use Rattle.spd_apply.specs.Operations.{num_of}
-use Rattle.spd_apply.specs.Rules.{HoldsAnswers}
 use Rattle.spd_gather.specs.Lists.{AreKnown}
 use Rattle.spd_restrict.specs.Primed.{primed}
 use Rattle.spd_weigh.specs.declared.way.Way.{Way}
 use Rattle.spd_weigh.specs.declared.way.Way.TheVariants.{Down, Up}
 use Rattle.spd_weigh.specs.Summed.{HoldsSums, HoldsDiscounts}
 use Rattle.spd_weigh.specs.Weighing.{summed_out}
+use Rattle.spd_build.specs.Building.{HoldAdds}
 use Rattle.spd_backup.specs.declared.tables.LastSum.{LastSum}
 use Rattle.spd_backup.specs.declared.tables.SumTables.{SumTables}
 use Rattle.spd_backup.specs.declared.tables.Tables.{Tables}
@@ -43,10 +40,6 @@ pub record HoldEachSum (way : Way) (n : ℕ) (s : Shown) (tables : List SumTable
 pub record HoldWay (way : Way) (n discount : ℕ) (s : Shown) (t : WayTables) : Type 0 where
   pub sums : HoldEachSum way n s t.sums.items
   pub discounts : HoldsDiscounts way discount s t.discounts
-
--- sums of numbers
-abbrev pub HoldAdds : Shown → KeptAnswers → Type 0
-HoldAdds s memo = HoldsAnswers (applied (num_of (λ x y. x +ℤ y))) s memo
 
 -- a diagram, and that of its function at the next state
 pub record IsPrimed (s : Shown) (f r : Entry) : Type 0 where

@@ -8,18 +8,17 @@ ghost use Rattle.spd_restrict.specs.Primed.{primed, TestsNoPrimed};
 ghost use Rattle.spd_weigh.specs.Leaves.{HasValues};
 ghost use Rattle.spd_backup.specs.Expected.{BacksUp};
 ghost use Rattle.spd_backup.specs.Thawing.{IsThawed, HasAction, HasNumbers};
-ghost use Rattle.spd_backup.specs.Exact.{HoldDown};
-ghost use Rattle.spd_backup.specs.Keeping.{HoldWay, HoldAdds, HoldAll, IsPrimed};
-ghost use Rattle.spd_backup.specs.Making.{IsFollowed, Follows, MakesBound};
+ghost use Rattle.spd_backup.specs.Keeping.{HoldAll, IsPrimed};
+ghost use Rattle.spd_backup.specs.Making.{IsFollowed, Follows, MakesBound, MakesExpected};
 
+use crate::exact::discount_once;
 use crate::expecting::expect;
-use crate::tables::{SumTables, Tables, WayTables};
+use crate::tables::Tables;
 use crate::thawed::Thawed;
 use spd_apply::{Add, OpFault, apply};
-use spd_memo::Memo;
 use spd_nodes::{Forest, Ref, Steps};
 use spd_restrict::prime;
-use spd_weigh::{Way, discount_with};
+use spd_weigh::Way;
 use std::alloc::Global;
 use std::sync::ledger::Ledger;
 
@@ -67,7 +66,50 @@ fn primed_of<F: Forest, L: Ledger>(
     Ok(primed)
 }
 
-/// One bound of an action's return: the discounted expectation, added to the reward. `down` has sums that were rounded down.
+/// The expectation of a primed value after an action, rounded one way, with the tables of that way.
+fn expected_of<F: Forest, L: Ledger>(
+    alloc: Global,
+    forest: &mut F,
+    thawed: &Thawed,
+    next: Ref,
+    action: u32,
+    way: Way,
+    tables: &mut Tables,
+    steps: &mut Steps<L>,
+) -> Result<Ref, OpFault>
+    requires followed { IsFollowed (F.shows forest.old) thawed.now action next }
+    requires tables { HoldAll (length thawed.now.sizes.items) thawed.now.g (F.shows forest.old) tables.old }
+    ensures made { (m : Process) (a : Action) (w : List ℕ → ℤ) → Follows m a w (F.shows forest.old) thawed.now action next → MakesExpected way m a w (F.shows forest.old) (F.shows forest.new) result }
+    ensures keeps { F.kept forest.new ≡ F.kept forest.old }
+    ensures tables { HoldAll (length thawed.now.sizes.items) thawed.now.g (F.shows forest.new) tables.new }
+{
+    match way {
+        Way::Down => expect(
+            alloc,
+            forest,
+            thawed,
+            next,
+            action,
+            Way::Down,
+            &[],
+            &mut tables.down.sums,
+            steps,
+        ),
+        Way::Up => expect(
+            alloc,
+            forest,
+            thawed,
+            next,
+            action,
+            Way::Up,
+            tables.down.sums.as_slice(),
+            &mut tables.up.sums,
+            steps,
+        ),
+    }
+}
+
+/// One bound of an action's return: the discounted expectation, added to the reward.
 fn bound_of<F: Forest, L: Ledger>(
     alloc: Global,
     forest: &mut F,
@@ -75,43 +117,29 @@ fn bound_of<F: Forest, L: Ledger>(
     next: Ref,
     action: u32,
     way: Way,
-    down: &[SumTables],
-    tables: &mut WayTables,
-    adds: &mut Memo,
+    tables: &mut Tables,
     steps: &mut Steps<L>,
 ) -> Result<Ref, OpFault>
     requires followed { IsFollowed (F.shows forest.old) thawed.now action next }
-    requires down { HoldDown (F.shows forest.old) down.now }
-    requires tables { HoldWay way (length thawed.now.sizes.items) thawed.now.g (F.shows forest.old) tables.old }
-    requires adds { HoldAdds (F.shows forest.old) adds.old }
+    requires tables { HoldAll (length thawed.now.sizes.items) thawed.now.g (F.shows forest.old) tables.old }
     ensures made { (m : Process) (a : Action) (w : List ℕ → ℤ) → Follows m a w (F.shows forest.old) thawed.now action next → MakesBound way m a w (F.shows forest.old) (F.shows forest.new) result }
     ensures keeps { F.kept forest.new ≡ F.kept forest.old }
-    ensures tables { HoldWay way (length thawed.now.sizes.items) thawed.now.g (F.shows forest.new) tables.new }
-    ensures adds { HoldAdds (F.shows forest.new) adds.new }
+    ensures tables { HoldAll (length thawed.now.sizes.items) thawed.now.g (F.shows forest.new) tables.new }
 {
     let _ = forest.layout();
-    let expected = expect(
-        alloc,
-        forest,
-        thawed,
-        next,
-        action,
-        way,
-        down,
-        &mut tables.sums,
-        steps,
-    )?;
-    let later = discount_with(
+    let expected = expected_of(alloc, forest, thawed, next, action, way, tables, steps)?;
+    let later = discount_once(
         alloc,
         forest,
         expected,
         thawed.g,
         way,
-        &mut tables.discounts,
+        &mut tables.down.discounts,
+        &mut tables.up.discounts,
         steps,
     )?;
     let reward = thawed.rewards[action as usize];
-    apply(forest, &Add, reward, later, adds, steps)
+    apply(forest, &Add, reward, later, &mut tables.adds, steps)
 }
 
 /// The same as `backup` with tables that the caller keeps, which hold answers of a backup's operations alone, for this many variables
@@ -146,23 +174,10 @@ pub fn backup_with<F: Forest, L: Ledger>(
         next,
         action,
         Way::Down,
-        &[],
-        &mut tables.down,
-        &mut tables.adds,
+        tables,
         steps,
     )?;
-    let hi = bound_of(
-        alloc,
-        forest,
-        thawed,
-        next,
-        action,
-        Way::Up,
-        tables.down.sums.as_slice(),
-        &mut tables.up,
-        &mut tables.adds,
-        steps,
-    )?;
+    let hi = bound_of(alloc, forest, thawed, next, action, Way::Up, tables, steps)?;
     Ok(Bounds { lo, hi })
 }
 

@@ -4,8 +4,10 @@
 //! primed, each variable's next value is summed out by the action's weights, one variable after another, and the discounted expectation
 //! is added to the reward: once with all roundings down and once with all up. The answers of all operations are kept in `Tables`, which
 //! a caller hands from action to action, so that what two actions have in common is made once. A variable that an expectation doesn't
-//! follow costs a search of its diagram, and nothing is made. A variable whose weights are all 0 or one is summed out of an expectation
-//! once for both bounds. `thaw_built` makes a built process's lists of nodes the diagrams that a backup reads.
+//! follow costs a search of its diagram, and nothing is made. Where no rounding happens, what is made serves both bounds: a variable is
+//! summed out once where each product of a weight and a value is seen to be whole, as it is where the weights are all 0 or one, and an
+//! expectation is discounted once where the discount makes whole numbers of it. `thaw_built` makes a built process's lists of nodes the diagrams that a
+//! backup reads.
 #![tactic(auto)]
 
 mod backing;

@@ -2,11 +2,11 @@
 -- widest range.
 use Rattle.std.proofs.Common.{◌≡◌, ◌⊎◌, inl, inr, ℕ, zero, suc, ◌<◌, Bool, true, false, ◌||◌, if◌then◌else◌, List, [], ◌∷◌, ◌++◌, length, fold, get_or, All, ℤ, pos, ◌+ℤ◌, ◌≤ℤ◌, ◌<ℤ◌, int_le, int_lt, refl, sym, ◌∙◌, true≢false, arith}
 use Rattle.std.specs.List.{list_any}
-use Rattle.std.proofs.lemmas.Bool.{and_parts, and_from, or_cases, or_parts, or_left, or_right}
+use Rattle.std.proofs.lemmas.Bool.{and_parts, or_cases, or_parts, or_left, or_right}
 use Rattle.std.proofs.lemmas.Int.{ints, int_max_is}
 use Rattle.std.proofs.lemmas.List.Elements.{All-nil, All-cons, All-head, All-tail, All-append, All-weaker}
 use Rattle.std.proofs.lemmas.List.Folds.{list_any-append}
-use Rattle.spd_scaled.proofs.CallerLemmas.Ring.{int_lt-true, int_lt-false, int_eq-true, int_eq-holds}
+use Rattle.spd_scaled.proofs.CallerLemmas.Ring.{int_lt-true, int_lt-false, int_eq-true}
 use Rattle.spd_scaled.proofs.CallerLemmas.DivisionLaws.{floor_div_at_most, floor_div_next_above}
 use Rattle.spd_model.specs.Ranges.{Range, is_same, is_before, with_range, in_order, Group, group_of, joined, groups_from, groups_of, middle_of, value_in}
 use Rattle.spd_model.proofs.CallerLemmas.Ranges.{is_same_itself}

@@ -7,7 +7,7 @@ use Rattle.std.proofs.lemmas.List.{get_or-map}
 use Rattle.std.proofs.lemmas.List.Elements.{All-contains}
 use Rattle.std.proofs.Math.Nat.{pow-zero, pow-suc, one-le-pow}
 use Rattle.spd_scaled.specs.Scaled.{floor_div, ceil_div}
-use Rattle.spd_scaled.proofs.CallerLemmas.Ring.{ring, int_lt-true, zero-*ℤ, *ℤ_comm, *ℤ_mono, *ℤ_mono_right, *ℤ_nonnegative, *ℤ_cancel_≤ℤ}
+use Rattle.spd_scaled.proofs.CallerLemmas.Ring.{ring, int_lt-true, zero-*ℤ, *ℤ_comm, *ℤ_mono, *ℤ_mono_right, *ℤ_nonnegative, *ℤ_cancel_≤ℤ, int_le-holds}
 use Rattle.spd_scaled.proofs.CallerLemmas.DivisionLaws.{floor_div_at_most, floor_div_next_above, ceil_div_at_least, ceil_div_last_below, ceil_div_greatest}
 use Rattle.spd_model.specs.declared.Why.{Why}
 use Rattle.spd_model.specs.declared.Why.TheVariants.{Done, Limit}
@@ -259,9 +259,6 @@ enough_step t d e p q first here w n tolerance two one rest power many before h 
 le_true : (x y : ℤ) → int_le x y ≡ true → x ≤ℤ y
 le_true x y h = grind (arith, ints)
 
-le_holds : (x y : ℤ) → x ≤ℤ y → int_le x y ≡ true
-le_holds x y h = grind (arith, ints)
-
 power_positive : (n k : ℕ) → 0 < n → pos 0 <ℤ pos (n ^ k)
 power_positive n k some = let power : 1 ≤ n ^ k = one-le-pow k n some in omega (arith, ints)
 
@@ -346,7 +343,7 @@ module _ (m : Process) (valid : IsValid m) (span : ℤ) where
       let power = power_positive discount_one k (omega arith) in
       let holds = le_true _ _ h in
       elim (cases_lt m.discount discount_one) [
-        | inl less ↦ le_holds _ _
+        | inl less ↦ int_le-holds _ _
             (enough_step (pos 2) (pos discount_one) rest p q first (residual_at m span k) added n m.tolerance (natural_nonnegative 2) (natural_nonnegative discount_one)
             (omega (arith, ints)) power (natural_nonnegative (length m.vars + 1)) (shrunk (omega arith) k) holds)
         | inr more ↦ absurd
@@ -397,7 +394,7 @@ module _ (m : Process) (valid : IsValid m) (span : ℤ) where
       elim (cases_lt m.discount discount_one) [
         | inl less ↦ (
           k,
-          le_holds _ _
+          int_le-holds _ _
               (share_step (pos 2) (pos discount_one) (pos m.discount) rest p q first (error_allowed m) (error_that_stays m span) (omega (arith, ints))
               (natural_nonnegative m.discount) (natural_nonnegative (discount_one - m.discount)) discount_above (natural_nonnegative (discount_one ^ k)) (natural_nonnegative (m.discount ^ k)) room
               (subst (λ x. ((pos 2 *ℤ pos discount_one *ℤ pos discount_one *ℤ x *ℤ rest +ℤ pos m.discount) *ℤ q) ≤ℤ (pos m.discount *ℤ p)) (sym is)

@@ -8,4 +8,6 @@ mod lines;
 #[cfg(test)]
 mod models;
 #[cfg(test)]
+mod summary;
+#[cfg(test)]
 mod tables;

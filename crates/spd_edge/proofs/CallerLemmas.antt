@@ -1,10 +1,12 @@
--- What callers' proofs cite of the outside: reads and writes one after the other, and texts that are compared.
-use Rattle.std.proofs.Common.{◌≡◌, ◌≢◌, ℕ, ◌+◌, List, [], ◌++◌, length, take, true, false, Option, None, Some, refl, sym, ap, ◌∙◌, subst, arith, append_assoc, append-nil, length-append}
+-- What callers' proofs cite of the outside: reads and writes one after the other, pieces of a text, and texts that are compared.
+use Rattle.std.proofs.Common.{◌≡◌, ◌≢◌, ℕ, ◌+◌, ◌<◌, ◌≤◌, List, [], ◌∷◌, ◌++◌, length, take, get_or, Bor, true, false, Option, None, Some, refl, sym, ap, ◌∙◌, subst, arith, append_assoc, append-nil, length-append}
 use Rattle.std.specs.Prelude.{option_map}
 use Rattle.std.specs.Str.{bytes_eq}
-use Rattle.std.proofs.lemmas.List.{take-append-le}
+use Rattle.std.proofs.lemmas.Grind.{flat_map-append}
+use Rattle.std.proofs.lemmas.List.{take-append-le, take_more, take_all}
 use Rattle.std.proofs.lemmas.Slice.Eq.{bytes_eq-Decides}
 use Rattle.std.proofs.Math.Seq.{take-append-add}
+use Rattle.spd_edge.specs.Pieces.{text_of_pieces}
 use Rattle.spd_edge.specs.Told.{Gave, Took, TookFront}
 
 -- what is read first and what is read next
@@ -44,6 +46,16 @@ TookFront-longer a c bytes others front = (
   rw length-append (omega (arith, front.1)),
   subst (λ (t : List ℕ). Took a t c) (sym (take-append-le front.0 bytes others front.1)) front.2,
 )
+
+-- one piece more
+pub pieces-more : (pieces : List (Bor (List ℕ))) (i : ℕ) (d : Bor (List ℕ)) → i < length pieces → text_of_pieces (take i pieces) ++ (get_or pieces i d).now ≡ text_of_pieces (take (i + 1) pieces)
+pieces-more pieces i d h =
+    sym (ap text_of_pieces (take_more pieces i d h) ∙ flat_map-append (λ (p : Bor (List ℕ)). p.now) (take i pieces) (get_or pieces i d ∷ [])
+    ∙ ap (λ l. text_of_pieces (take i pieces) ++ l) (append-nil (get_or pieces i d).now))
+
+-- all pieces
+pub pieces-all : (pieces : List (Bor (List ℕ))) (i : ℕ) → length pieces ≤ i → text_of_pieces (take i pieces) ≡ text_of_pieces pieces
+pieces-all pieces i h = ap text_of_pieces (take_all i pieces h)
 
 -- a text is itself
 pub bytes_eq-same : (name : List ℕ) → bytes_eq name name ≡ true

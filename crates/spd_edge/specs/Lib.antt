@@ -4,6 +4,7 @@ pub mod Memory
 pub mod MemoryPlace
 pub mod Names
 pub mod Openings
+pub mod Pieces
 pub mod Real
 pub mod Streams
 pub mod Told

@@ -1,5 +1,5 @@
 -- Completing what follows the values at the root of a diagram, one value after the other.
-use Rattle.std.proofs.Common.{◌≡◌, ℕ, ◌+◌, ◌-◌, ◌<◌, ◌≤◌, Bool, true, false, cond, List, [], ◌∷◌, ◌++◌, length, map, refl, sym, ◌∙◌, ap, subst, arith, add-one}
+use Rattle.std.proofs.Common.{◌≡◌, ℕ, ◌+◌, ◌-◌, ◌<◌, ◌≤◌, Bool, true, false, List, [], ◌∷◌, ◌++◌, length, map, refl, sym, ◌∙◌, ap, subst, arith, add-one}
 use Rattle.std.specs.Prelude.{nat_lt}
 use Rattle.std.proofs.lemmas.Bool.Decides.{nat_tests}
 use Rattle.std.proofs.lemmas.List.{length-map}
@@ -12,10 +12,10 @@ use Rattle.spd_nodes.specs.Levels.{slots, slot_of, after, IsTestOf}
 use Rattle.spd_nodes.specs.Trees.{Tree, leaf_eq, IsFrom, IsAt, tree_rank}
 use Rattle.spd_nodes.specs.Shown.{Shown, IsSound, IsWhole}
 use Rattle.spd_nodes.proofs.CallerLemmas.{IsFrom-lower}
-use Rattle.spd_frozen.specs.Frozen.{diagram_of, diagrams}
+use Rattle.spd_frozen.specs.Frozen.{diagrams}
 use Rattle.spd_frozen.specs.inner.Kids.{yes_at, no_at, rest_after, kid_tree}
 use Rattle.spd_frozen.specs.inner.Unique.{HasSubtreesAmong, AreAmong}
-use Rattle.spd_frozen.specs.inner.Completed.{slot_diagram, IsRoot, HoldsNodes, kids_of, IsCompleted, IsNext}
+use Rattle.spd_frozen.specs.inner.Completed.{slot_diagram, HoldsNodes, kids_of, IsCompleted, IsNext}
 use Rattle.spd_frozen.proofs.Places.{D}
 use Rattle.spd_frozen.proofs.Reading.{length-diagrams_after}
 use Rattle.spd_frozen.proofs.Completion.{nodes_after_all-is}

@@ -1,29 +1,29 @@
 -- What freezing keeps of a forest, node after node.
-use Rattle.std.proofs.Common.{◌≡◌, ℕ, ◌+◌, ◌<◌, ◌⊎◌, inl, inr, ◌==◌, Bool, true, false, not, List, [], ◌∷◌, ◌++◌, length, map, get_or, Some, slice_get, refl, sym, ◌∙◌, ap, subst, arith, true≢false, if◌then◌else◌}
-use Rattle.std.specs.Prelude.{All, Contains, position, Result, IfOk}
+use Rattle.std.proofs.Common.{◌≡◌, ℕ, ◌+◌, ◌<◌, ◌⊎◌, inl, inr, ◌==◌, Bool, true, false, not, List, [], ◌∷◌, ◌++◌, length, get_or, Some, slice_get, refl, sym, ◌∙◌, ap, subst, arith, true≢false, if◌then◌else◌}
+use Rattle.std.specs.Prelude.{Contains, position, Result, IfOk}
 use Rattle.std.proofs.lemmas.Result.{IfOk-weaker}
 use Rattle.std.specs.List.{list_any, position_or_len}
 use Rattle.std.proofs.lemmas.Bool.Decides.{Decides-eqb}
 use Rattle.std.proofs.lemmas.List.{get_or-map, length-map, map-append}
-use Rattle.std.proofs.lemmas.List.Elements.{All-get_or, All-push, Contains-get_or}
+use Rattle.std.proofs.lemmas.List.Elements.{All-get_or, All-push}
 use Rattle.std.proofs.lemmas.List.Folds.{list_any_at}
 use Rattle.std.proofs.lemmas.List.Quantifiers.{position-Some}
 use Rattle.std.proofs.lemmas.List.Sums.{position_or_len_is}
-use Rattle.std.proofs.lemmas.Option.{get_or_from_slice_get, slice_get-get_or, slice_get_within}
+use Rattle.std.proofs.lemmas.Option.{get_or_from_slice_get, slice_get_within}
 use Rattle.spd_cons_core.specs.declared.key.Entry.{Entry}
 use Rattle.spd_model.specs.Reduced.{Diagram, Node, with_node, nodes_after, nodes_after_all, node_number}
 use Rattle.spd_nodes.specs.declared.leaf.Leaf.{Leaf}
 use Rattle.spd_nodes.specs.Levels.{slots}
 use Rattle.spd_nodes.specs.Trees.{leaf_eq, Ends}
 use Rattle.spd_nodes.specs.States.{plain_part, primed_part}
-use Rattle.spd_nodes.specs.Shown.{Shown, IsSound, IsWhole, meaning}
+use Rattle.spd_nodes.specs.Shown.{Shown, IsSound, meaning}
 use Rattle.spd_nodes.proofs.CallerLemmas.{positive-slots, test_tree-function_of}
-use Rattle.spd_frozen.specs.Frozen.{diagram_of, diagrams}
-use Rattle.spd_frozen.specs.inner.Unique.{AreApart, HasKidsBelow, HasSubtreesAmong, IsClosed, IsUniqueTable}
+use Rattle.spd_frozen.specs.Frozen.{diagrams}
+use Rattle.spd_frozen.specs.inner.Unique.{AreApart, IsClosed}
 use Rattle.spd_frozen.specs.inner.Completed.{slot_diagram, IsRoot, HoldsNodes, kids_of, IsCompleted, IsNext, AddsNode}
 use Rattle.spd_frozen.proofs.Places.{D, IsNew, there-or-new, with_node-there, with_node-new, number-push}
 use Rattle.spd_frozen.proofs.Completion.{with_node-is, nodes_after-there}
-use Rattle.spd_frozen.proofs.Reading.{nothing, kid_at, diagrams_after-push}
+use Rattle.spd_frozen.proofs.Reading.{nothing, diagrams_after-push}
 use Rattle.spd_frozen.proofs.UniqueLaws.{KidsFirst-push, HasKidsBelow-more, AreApart-push}
 use Rattle.spd_frozen.proofs.TreeDiagrams.{tree_diagram, diagram-tree_of, diagram-leaf, diagrams-apart}
 

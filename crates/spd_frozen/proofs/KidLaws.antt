@@ -1,12 +1,12 @@
 -- The trees that follow the values of a slot at the root of a whole tree.
-use Rattle.std.proofs.Common.{◌≡◌, ℕ, zero, suc, ◌+◌, ◌-◌, ◌<◌, ◌≤◌, ◌⊎◌, inl, inr, ◌==◌, Bool, true, false, cond, List, length, map, take, get_or, refl, sym, ◌∙◌, ap, subst, arith}
+use Rattle.std.proofs.Common.{◌≡◌, ℕ, zero, suc, ◌+◌, ◌-◌, ◌<◌, ◌≤◌, ◌⊎◌, inl, inr, ◌==◌, Bool, true, false, cond, List, map, take, get_or, refl, sym, ◌∙◌, ap, subst, arith}
 use Rattle.std.specs.Prelude.{nat_lt}
 use Rattle.std.proofs.lemmas.Bool.Decides.{Decides-eqb, nat_tests}
 use Rattle.spd_model.specs.Numbers.{numbers_below}
 use Rattle.spd_model.specs.Reduced.{Diagram, subtrees_of}
-use Rattle.spd_nodes.specs.Levels.{levels_of, slots, slot_of, level_at, after, is_first, IsTestOf, IsSlot}
+use Rattle.spd_nodes.specs.Levels.{levels_of, slots, slot_of, level_at, after, IsTestOf, IsSlot}
 use Rattle.spd_nodes.specs.Trees.{Tree, Ends, Tests, IsFrom, IsAt, IsReduced, tree_rank}
-use Rattle.spd_nodes.proofs.CallerLemmas.{after-in, after-next, after_above, at-from, first-in, level_of-reduced, parts, rank-from, slot-of}
+use Rattle.spd_nodes.proofs.CallerLemmas.{after-in, after-next, at-from, first-in, level_of-reduced, parts, rank-from, slot-of}
 use Rattle.spd_frozen.specs.inner.Kids.{yes_at, no_at, rest_after, kid_tree}
 use Rattle.spd_frozen.proofs.SlotTrees.{StartsFrom, from-starts, yes-past, no-past}
 use Rattle.spd_frozen.proofs.TreeDiagrams.{tree_diagram, diagram-test}

@@ -1,13 +1,12 @@
 -- Making the diagrams of the nodes of a list, one after the other.
-use Rattle.std.proofs.Common.{◌≡◌, ◌≢◌, ℕ, zero, suc, ◌+◌, ◌-◌, ◌*◌, ◌<◌, ◌≤◌, ◌==◌, Bool, true, false, List, [], ◌∷◌, length, map, take, get_or, set, Some, None, Option, refl, sym, ◌∙◌, ap, subst, arith, pos, Result, Ok, Err, true≢false}
+use Rattle.std.proofs.Common.{◌≡◌, ◌≢◌, ℕ, zero, suc, ◌+◌, ◌-◌, ◌*◌, ◌<◌, ◌≤◌, ◌==◌, Bool, true, false, List, [], ◌∷◌, length, map, take, get_or, set, Some, Option, refl, sym, ◌∙◌, ap, subst, arith, pos, Result, Ok, Err, true≢false}
 use Rattle.std.specs.Prelude.{All, slice_get, slice_index, OnOk}
-use Rattle.std.proofs.lemmas.Bool.Decides.{Decides-eqb, nat_tests}
+use Rattle.std.proofs.lemmas.Bool.Decides.{Decides-eqb}
 use Rattle.std.proofs.lemmas.List.{length-map, get_or-map, get_or_default, get_or-set_same, get_or-set_other, length-set}
 use Rattle.std.proofs.lemmas.Option.{slice_get-get_or, slice_get_within, get_or_from_slice_get}
 use Rattle.std.proofs.lemmas.Simd.{map-map}
 use Rattle.spd_cons_core.specs.declared.key.Entry.{Entry}
-use Rattle.spd_model.specs.Reduced.{Diagram, Subtrees, subtrees_of, Node}
-use Rattle.spd_model.specs.States.{IsState}
+use Rattle.spd_model.specs.Reduced.{subtrees_of, Node}
 use Rattle.spd_nodes.specs.declared.forest.StoreFault.{StoreFault}
 use Rattle.spd_nodes.specs.declared.forest.StoreFault.TheVariants as F
 use Rattle.spd_nodes.specs.declared.leaf.Leaf.{Leaf}
@@ -15,7 +14,7 @@ use Rattle.spd_nodes.specs.declared.leaf.Leaf.TheVariants.{Num}
 use Rattle.spd_nodes.specs.Levels.{levels_of, slots, slot_of, IsSlot}
 use Rattle.spd_nodes.specs.Limits.{IsLayout}
 use Rattle.spd_nodes.specs.Trees.{Tree, Ends, IsFrom, IsReduced, CanTest, join}
-use Rattle.spd_nodes.specs.States.{point, function_of, Agree}
+use Rattle.spd_nodes.specs.States.{point}
 use Rattle.spd_nodes.specs.Shown.{Shown, IsSound, Grows, KnowsAs, MakesTree, MakesDiagram}
 use Rattle.spd_nodes.proofs.CallerLemmas.{IsState-point, IsTreeFor, Within, levels_of-slots, makes-diagram, part-fails, part-then}
 use Rattle.spd_frozen.specs.Fits.{FitsNode, FitsSizes}
@@ -23,9 +22,9 @@ use Rattle.spd_frozen.specs.Frozen.{IsNodeAt, IsFrozen, diagram_of, diagrams}
 use Rattle.spd_frozen.specs.Thawing.{mixed_function}
 use Rattle.spd_frozen.specs.inner.Thawed.{none_tree, tests_from, slot_tree, slot_trees, node_tree, node_at, node_kids, node_slot, kid_trees, HasMade}
 use Rattle.spd_frozen.proofs.Places.{D}
-use Rattle.spd_frozen.proofs.Reading.{nothing, kid_at}
-use Rattle.spd_frozen.proofs.FrozenLaws.{Suits, AllSuit}
-use Rattle.spd_frozen.proofs.ThawLaws.{AnyLeaf, slot-is, slot_trees-fit, slot_tree-fits, slot_tree-value, nodes-suit, node-diagram, next-slot, tests-next, tests-last, can-next, level-next, within-kid, within-rest}
+use Rattle.spd_frozen.proofs.Reading.{kid_at}
+use Rattle.spd_frozen.proofs.FrozenLaws.{Suits}
+use Rattle.spd_frozen.proofs.ThawLaws.{AnyLeaf, slot_trees-fit, slot_tree-fits, slot_tree-value, nodes-suit, node-diagram, next-slot, tests-next, can-next, level-next, within-kid, within-rest}
 
 trees-list : (ds : List ℕ) (es : List D) → slot_trees ds (subtrees_of es) ≡ map (slot_tree ds) es
 trees-list ds [] = refl
@@ -143,12 +142,6 @@ module _ (s : Shown) (o : IsSound s) (nodes : List (Node Leaf)) (frozen : IsFroz
 
   pub kid-fails : (t : Shown) (e : StoreFault) → MakesTree s t (node_tree ds nodes kid) (Err e) → MakesTree s t (tests_from trees first value) (Err e)
   kid-fails t e m = part-fails e kid-within m
-
-  -- the last kid
-  pub kid-last : (t : Shown) (r : Entry) → value + 1 ≡ length (node_kids (node_at nodes number)) → MakesTree s t (node_tree ds nodes kid) (Ok r) → MakesTree s t (tests_from trees first value) (Ok r)
-  kid-last t r e m =
-      let same : tests_from trees first value ≡ node_tree ds nodes kid = tests-last ds slot first stop trees is k.some k.end_is k.fit value (omega (arith, e, kids-long ds nodes frozen fits number low)) ∙ kid-is in
-      subst (λ (x : Tree). MakesTree s t x (Ok r)) (sym same) m
 
   -- what follows the later values, and the test
   module _ (more : value + 1 < length (node_kids (node_at nodes number))) where

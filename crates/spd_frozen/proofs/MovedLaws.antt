@@ -1,5 +1,5 @@
 -- Diagrams with other leaves or on other variables: where both changes keep what is equal and what isn't, they keep the list of nodes.
-use Rattle.std.proofs.Common.{◌≡◌, ℕ, zero, suc, Bool, true, false, not, ◌&&◌, ◌==◌, List, [], ◌∷◌, ◌++◌, map, refl, ap, sym, ◌∙◌, subst, if◌then◌else◌, unwrap_or}
+use Rattle.std.proofs.Common.{◌≡◌, ℕ, Bool, true, false, not, ◌&&◌, ◌==◌, List, [], ◌∷◌, ◌++◌, map, refl, ap, sym, ◌∙◌, subst, if◌then◌else◌, unwrap_or}
 use Rattle.std.specs.List.{list_any, list_all, prefix_len, position}
 use Rattle.std.proofs.lemmas.List.{map-append, length-map}
 use Rattle.spd_model.specs.Reduced.{Diagram, Subtrees, none, also, subtrees_of, Node, is_equal, are_equal, choice_of, with_node, nodes_after, nodes_after_all, nodes_of, node_number, node_numbers, node_of, listed}

@@ -1,6 +1,6 @@
 -- A list over the variables, with its branches on the slots of present values: it is a diagram, fits the slots and has the same leaves.
-use Rattle.std.proofs.Common.{◌≡◌, ℕ, zero, suc, ◌+◌, ◌-◌, ◌*◌, ◌<◌, true, false, List, [], ◌∷◌, ◌++◌, length, map, get_or, Some, refl, sym, ◌∙◌, ap, subst, arith, pos}
-use Rattle.std.specs.Prelude.{All, slice_get, slice_index}
+use Rattle.std.proofs.Common.{◌≡◌, ℕ, zero, suc, ◌+◌, ◌-◌, ◌*◌, ◌<◌, List, [], ◌∷◌, ◌++◌, length, map, get_or, Some, refl, sym, ◌∙◌, ap, subst, arith, pos}
+use Rattle.std.specs.Prelude.{slice_get, slice_index}
 use Rattle.std.proofs.lemmas.List.{length-map, get_or-map, get_or_default, map-append}
 use Rattle.std.proofs.lemmas.List.Elements.{All-map, All-weaker}
 use Rattle.std.proofs.lemmas.Option.{slice_get-get_or, slice_get_within}
@@ -9,7 +9,7 @@ use Rattle.spd_model.specs.Reduced.{Diagram, Subtrees, none, also, subtrees_of, 
 use Rattle.spd_model.specs.States.{IsState}
 use Rattle.spd_nodes.specs.declared.leaf.Leaf.{Leaf}
 use Rattle.spd_nodes.specs.declared.leaf.Leaf.TheVariants.{Num}
-use Rattle.spd_nodes.specs.Levels.{slots, slot_of}
+use Rattle.spd_nodes.specs.Levels.{slots}
 use Rattle.spd_nodes.specs.States.{point}
 use Rattle.spd_frozen.specs.Fits.{FitsNode, FitsSizes}
 use Rattle.spd_frozen.specs.Frozen.{IsAfter, IsNodeAt, IsFrozen, diagram_of, diagrams_after, diagrams, reached, reached_among, leaf_at}

@@ -1,15 +1,15 @@
 -- The reduced diagram of a table, from the diagrams of its parts.
-use Rattle.std.proofs.Common.{◌≡◌, ℕ, zero, suc, ◌+◌, ◌*◌, ◌-◌, ◌<◌, ◌≤◌, Bool, true, false, List, [], ◌∷◌, ◌++◌, length, map, drop, get_or, refl, ap, sym, ◌∙◌, subst, arith, add-one, pos}
+use Rattle.std.proofs.Common.{◌≡◌, ℕ, suc, ◌+◌, ◌*◌, ◌-◌, ◌<◌, ◌≤◌, Bool, true, false, List, [], ◌∷◌, ◌++◌, length, map, drop, get_or, refl, ap, sym, ◌∙◌, subst, arith, add-one, pos}
 use Rattle.std.specs.Prelude.{All, Contains, slice_range}
 use Rattle.std.specs.List.{list_all}
 use Rattle.std.proofs.lemmas.List.{map-append, get_or-take, get_or-drop, length-take, length-drop}
 use Rattle.std.proofs.Math.Nat.{mul-le-mul_right}
 use Rattle.std.proofs.lemmas.List.Elements.{All-head, All-tail, All-cons, All-nil}
-use Rattle.spd_model.proofs.CallerLemmas.Diagrams.{map-below, reduced-agree}
+use Rattle.spd_model.proofs.CallerLemmas.Diagrams.{reduced-agree}
 use Rattle.spd_model.proofs.CallerLemmas.StateOrder.{rank_below}
 use Rattle.spd_model.specs.Numbers.{numbers_below}
 use Rattle.spd_model.specs.Reduced.{Diagram, subtrees_of, Node, is_equal, choice_of, reduced_from, nodes_after, nodes_after_all, node_number}
-use Rattle.spd_model.specs.States.{state_count, rank, IsState}
+use Rattle.spd_model.specs.States.{state_count, rank}
 use Rattle.spd_nodes.specs.Trees.{leaf_eq}
 use Rattle.spd_nodes.specs.declared.leaf.Leaf.{Leaf}
 use Rattle.spd_nodes.specs.declared.leaf.Leaf.TheVariants.{Num}

@@ -1,23 +1,23 @@
 -- The test trees of the nodes of a list over slots: they are reduced and whole, and have the list's leaves.
-use Rattle.std.proofs.Common.{◌≡◌, ℕ, zero, suc, ◌+◌, ◌-◌, ◌<◌, ◌≤◌, ◌⊎◌, inl, inr, ◌==◌, Bool, true, false, cond, List, [], ◌∷◌, length, map, take, get_or, set, Some, refl, sym, ◌∙◌, ap, subst, arith, pos}
+use Rattle.std.proofs.Common.{◌≡◌, ℕ, zero, suc, ◌+◌, ◌-◌, ◌<◌, ◌≤◌, ◌⊎◌, inl, inr, ◌==◌, Bool, true, false, cond, List, [], ◌∷◌, length, map, take, get_or, Some, refl, sym, ◌∙◌, ap, subst, arith, pos}
 use Rattle.std.specs.Prelude.{All, slice_get, slice_index}
 use Rattle.std.proofs.lemmas.Bool.Decides.{Decides-eqb, nat_tests}
-use Rattle.std.proofs.lemmas.List.{length-map, get_or-map, set-get_or, get_or_default}
-use Rattle.std.proofs.lemmas.List.Elements.{All-map, All-head, All-tail, All-cons, All-nil}
+use Rattle.std.proofs.lemmas.List.{length-map, set-get_or, get_or_default}
+use Rattle.std.proofs.lemmas.List.Elements.{All-map}
 use Rattle.std.proofs.lemmas.Option.{slice_get-get_or}
 use Rattle.spd_model.proofs.CallerLemmas.StateOrder.{value_below}
 use Rattle.spd_model.specs.Reduced.{Diagram, Subtrees, none, also, subtrees_of, Node}
 use Rattle.spd_model.specs.States.{IsState}
 use Rattle.spd_nodes.specs.declared.leaf.Leaf.{Leaf}
 use Rattle.spd_nodes.specs.declared.leaf.Leaf.TheVariants.{Num}
-use Rattle.spd_nodes.specs.Levels.{levels_of, slots, after, passes, is_first, IsSlot}
-use Rattle.spd_nodes.specs.Trees.{Tree, Ends, IsFrom, IsAt, IsReduced, CanTest, join, chain, value_at}
-use Rattle.spd_nodes.proofs.CallerLemmas.{IsFrom-at, IsFrom-lower, Joins, Within, after-in, after_le, first-is, joins, passes-in, value_at-join, within-no, within-yes}
+use Rattle.spd_nodes.specs.Levels.{levels_of, after, passes, IsSlot}
+use Rattle.spd_nodes.specs.Trees.{Tree, IsFrom, IsAt, IsReduced, CanTest, join, chain, value_at}
+use Rattle.spd_nodes.proofs.CallerLemmas.{IsFrom-at, IsFrom-lower, Within, after-in, after_le, first-is, joins, passes-in, value_at-join, within-no, within-yes}
 use Rattle.spd_frozen.specs.Fits.{FitsNode, FitsSizes}
 use Rattle.spd_frozen.specs.Frozen.{IsAfter, IsNodeAt, IsFrozen, diagram_of, diagrams, reached, reached_among}
 use Rattle.spd_frozen.specs.inner.Thawed.{none_tree, tests_from, slot_tree, slot_trees}
 use Rattle.spd_frozen.proofs.Places.{D}
-use Rattle.spd_frozen.proofs.Reading.{nothing, kid_at}
+use Rattle.spd_frozen.proofs.Reading.{kid_at}
 use Rattle.spd_frozen.proofs.FollowLaws.{frozen-kids_first, diagram-at}
 use Rattle.spd_frozen.proofs.FrozenLaws.{Suits, AllSuit, AllSuit-from, count, count-subtrees_of}
 

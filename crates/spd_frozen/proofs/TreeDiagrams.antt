@@ -8,7 +8,6 @@ use Rattle.spd_model.proofs.CallerLemmas.Diagrams.{map-below}
 use Rattle.spd_model.proofs.CallerLemmas.Lists.{length-numbers_below, get_or-numbers_below}
 use Rattle.spd_model.specs.Numbers.{numbers_below}
 use Rattle.spd_model.specs.Reduced.{Diagram, subtrees_of, is_equal, choice_of, reduced_from}
-use Rattle.spd_model.specs.States.{IsState}
 use Rattle.spd_nodes.specs.declared.leaf.Leaf.{Leaf}
 use Rattle.spd_nodes.specs.declared.leaf.Leaf.TheVariants.{Num}
 use Rattle.spd_nodes.specs.Levels.{levels_of, AllPositive}

@@ -4,7 +4,7 @@ use Rattle.std.specs.Prelude.{int_lt}
 use Rattle.std.specs.Ordering.{int_cmp, ordering_then, is_eq, is_lt, match_ordering, ordering_reverse}
 use Rattle.std.specs.Bool.{if◌then◌else◌}
 use Rattle.std.specs.Cmp.{IsTotalOrder, on_total}
-use Rattle.std.proofs.lemmas.Cmp.{then_total, int_cmp_total, int_eq_equiv}
+use Rattle.std.proofs.lemmas.Cmp.{then_total, int_cmp_total}
 use Rattle.std.proofs.lemmas.List.{take_more}
 use Rattle.std.specs.BTreeSet.{insert_key}
 use Rattle.std.specs.Cmp.{tied_then}

@@ -1,5 +1,5 @@
 -- What is made of a list of whole entries.
-use Rattle.std.proofs.Common.{◌≡◌, ℕ, zero, suc, ◌+◌, ◌-◌, ◌*◌, ◌<◌, ◌≤◌, List, [], ◌∷◌, map, length, take, get_or, refl, sym, ◌∙◌, ap, subst, arith, true, false, inl, All}
+use Rattle.std.proofs.Common.{◌≡◌, ℕ, ◌+◌, ◌-◌, ◌*◌, ◌<◌, ◌≤◌, List, [], ◌∷◌, map, length, refl, sym, ◌∙◌, ap, subst, arith, true, inl, All}
 use Rattle.std.specs.Prelude.{Contains}
 use Rattle.std.proofs.lemmas.List.{length-map}
 use Rattle.std.proofs.lemmas.List.Elements.{All-nil, All-cons, All-head, All-tail, All-weaker}
@@ -8,7 +8,7 @@ use Rattle.spd_model.specs.Numbers.{greatest}
 use Rattle.spd_model.specs.States.{IsState}
 use Rattle.spd_nodes.specs.declared.leaf.Leaf.{Leaf}
 use Rattle.spd_nodes.specs.declared.leaf.Leaf.TheVariants.{Num}
-use Rattle.spd_nodes.specs.Levels.{levels_of, slots, level_at}
+use Rattle.spd_nodes.specs.Levels.{levels_of, slots}
 use Rattle.spd_nodes.specs.Trees.{Tree, IsFrom, IsReduced}
 use Rattle.spd_nodes.specs.States.{Function, point}
 use Rattle.spd_nodes.specs.Shown.{Shown, IsSound, IsWhole, Grows, meaning}

@@ -218,7 +218,7 @@ decided-place levels s o (m ∷ ks) known may (inr starts) (suc n) some within b
 -- ---- the greatest and all bounds
 
 -- the first place of a number that is there
-place-found : (x : ℤ) (xs : List ℤ) → Contains xs x → position_or_len (int_eq x) xs ≡ first_place x xs
+pub place-found : (x : ℤ) (xs : List ℤ) → Contains xs x → position_or_len (int_eq x) xs ≡ first_place x xs
 place-found x xs there =
     let k = position_or_len (int_eq x) xs in
     let near : k < length xs = elim (cases_lt there.0 k) [

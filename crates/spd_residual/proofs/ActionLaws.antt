@@ -1,16 +1,12 @@
 -- The gaps and the actions that bounds and their best have.
-use Rattle.std.proofs.Common.{◌≡◌, ℕ, ◌+◌, ◌<◌, true, not, cond, List, [], ◌∷◌, All, Contains, length, map, get_or, inl, inr, ℤ, pos, ◌-ℤ◌, ◌≤ℤ◌, refl, sym, ◌∙◌, ap, subst, arith}
+use Rattle.std.proofs.Common.{◌≡◌, ℕ, ◌+◌, ◌<◌, true, not, cond, List, [], ◌∷◌, All, length, map, ℤ, pos, ◌-ℤ◌, ◌≤ℤ◌, refl, sym, ◌∙◌, ap, subst, arith}
 use Rattle.std.specs.Int.{int_max}
 use Rattle.std.specs.List.{position_or_len, AllZip}
 use Rattle.std.specs.Ordering.{int_eq}
-use Rattle.std.proofs.lemmas.Bool.{cases_lt, false≢true}
-use Rattle.std.proofs.lemmas.Grind.{common_steps}
 use Rattle.std.proofs.lemmas.Int.{ints, int_max_is}
 use Rattle.std.proofs.lemmas.List.{length-map}
 use Rattle.std.proofs.lemmas.List.Elements.{All-nil, All-cons, All-head, All-tail, All-weaker}
-use Rattle.std.proofs.lemmas.List.Sums.{fails_before_first}
 use Rattle.spd_scaled.specs.Scaled.{IsWithin}
-use Rattle.spd_scaled.proofs.CallerLemmas.Ring.{int_eq-holds}
 use Rattle.spd_cons_core.specs.declared.key.Entry.{Entry}
 use Rattle.spd_model.specs.declared.process.Action.{Action}
 use Rattle.spd_model.specs.Process.{Process}
@@ -31,8 +27,9 @@ use Rattle.spd_backup.specs.Expected.{bound}
 use Rattle.spd_backup.specs.Thawing.{HasNumbers}
 use Rattle.spd_policy.specs.declared.chosen.Best.{Best}
 use Rattle.spd_policy.specs.Best.{numbers_at, greatest_of, policy_by, lows_in, highs_in, lows_of, highs_of, AreBest, AreBoundsOf}
-use Rattle.spd_residual.specs.Residual.{Gaps, gaps_in, gaps_of, IsValued, IsValueOfState, AreOrdered}
-use Rattle.spd_residual.specs.inner.Finding.{HaveGaps, HaveActions, HasGap, first_upper}
+use Rattle.spd_policy.proofs.CallerLemmas.{place-found}
+use Rattle.spd_residual.specs.Residual.{Gaps, gaps_in, gaps_of, IsValued, IsValueOfState, AreOrdered, first_upper}
+use Rattle.spd_residual.specs.inner.Finding.{HaveGaps, HaveActions, HasGap}
 use Rattle.spd_residual.proofs.GapLaws.{meaning-grows}
 
 value-within : (a : Leaf) → IsValue a → IsWithin greatest_value (number_of a)
@@ -83,17 +80,6 @@ module _ (s : Shown) (side : Bounds → Entry) where
   }
 
 -- ---- the first action with a number
-
-place-found : (x : ℤ) (xs : List ℤ) → Contains xs x → position_or_len (int_eq x) xs ≡ first_place x xs
-place-found x xs there =
-    let k = position_or_len (int_eq x) xs in
-    let near : k < length xs = elim (cases_lt there.0 k) [
-      | inl before ↦
-          let fails = fails_before_first (int_eq x) xs there.0 x before in
-          absurd (false≢true (sym fails ∙ int_eq-holds x (get_or xs there.0 x) (sym there.2)))
-      | inr after ↦ omega (arith, there.1)
-    ] in
-    grind (arith, common_steps)
 
 same-number : (g : ℤ) (a : Leaf) → IsValue a → leaf_eq (Num g) a ≡ int_eq g (number_of a)
 same-number g (Num x) h = refl

@@ -50,7 +50,7 @@ module _ (s : Shown) (f g : Entry) (h : IsValued s f) (k : IsValued s g) where
   pub difference-fits : FitEverywhere (λ a b. num_fits (λ x y. x -ℤ y) a b) s f g
   difference-fits = record { at = λ x y i j. minus-fits (meaning s f x y) (meaning s g x y) (h.values.at x y i j) (k.values.at x y i j) }
 
-  difference-agrees : (gap : List ℕ → ℤ) → ((x y : List ℕ) → IsState s.sizes x → IsState s.sizes y → number_of (meaning s f x y) -ℤ number_of (meaning s g x y) ≡ gap x)
+  pub difference-agrees : (gap : List ℕ → ℤ) → ((x y : List ℕ) → IsState s.sizes x → IsState s.sizes y → number_of (meaning s f x y) -ℤ number_of (meaning s g x y) ≡ gap x)
       → Agree s.sizes (at_each minus (meaning s f) (meaning s g)) (numbers (λ x y. gap x))
   difference-agrees gap is = record { at = λ x y i j. minus-is (meaning s f x y) (meaning s g x y) (h.values.at x y i j) (k.values.at x y i j) ∙ ap Num (is x y i j) }
 

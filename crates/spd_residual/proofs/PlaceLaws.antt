@@ -1,5 +1,5 @@
 -- The greatest leaf of the greater gap is the residual, and where that leaf first stands is its place.
-use Rattle.std.proofs.Common.{◌≡◌, ◌⊎◌, inl, inr, ℕ, ◌<◌, Bool, true, false, ◌||◌, cond, List, [], All, get_or, find, Option, Some, None, unwrap_or, ℤ, pos, ◌≤ℤ◌, int_lt, refl, sym, ◌∙◌, ap, subst, arith}
+use Rattle.std.proofs.Common.{◌≡◌, ◌⊎◌, inl, inr, ℕ, ◌<◌, Bool, true, false, ◌||◌, List, [], All, get_or, find, Option, Some, None, unwrap_or, ℤ, pos, ◌≤ℤ◌, int_lt, refl, sym, ◌∙◌, ap, subst, arith}
 use Rattle.std.specs.Prelude.{option_map}
 use Rattle.std.specs.Int.{int_max}
 use Rattle.std.specs.Ordering.{int_eq}
@@ -7,6 +7,7 @@ use Rattle.std.proofs.lemmas.Bool.{false≢true}
 use Rattle.std.proofs.lemmas.Int.{ints, int_max_is, fold-int_max_bounds, fold-int_max_reached}
 use Rattle.spd_scaled.proofs.CallerLemmas.Ring.{int_eq-true, int_eq-holds, int_lt-true}
 use Rattle.spd_model.specs.States.{IsState, states, state_count, table_of}
+use Rattle.spd_model.proofs.CallerLemmas.Gaps.{max_cases}
 use Rattle.spd_model.proofs.CallerLemmas.StateOrder.{All-table_of_back, IsState-get_or, get_or-table_of, length-table_of}
 use Rattle.spd_nodes.specs.declared.leaf.Leaf.{Leaf}
 use Rattle.spd_nodes.specs.declared.leaf.Leaf.TheVariants.{Num}
@@ -29,10 +30,6 @@ use Rattle.spd_residual.specs.inner.Finding.{TellGaps, IsLastLeaf}
 
 -- ---- one of two gaps
 
-cond-cases : (b : Bool) (x y : ℤ) → (cond b x y ≡ x) ⊎ (cond b x y ≡ y)
-cond-cases true x y = inl refl
-cond-cases false x y = inr refl
-
 -- where no gap is above r, one of the two is r where the greater one is
 has-gap : (r a b : ℤ) → int_max a b ≤ℤ r → (int_eq r a || int_eq r b) ≡ int_eq r (int_max a b)
 has-gap r a b most = go (int_eq r (int_max a b)) (int_eq r a) (int_eq r b) refl refl refl
@@ -42,7 +39,7 @@ has-gap r a b most = go (int_eq r (int_max a b)) (int_eq r a) (int_eq r b) refl 
     go true false true em ex ey = refl
     go true false false em ex ey =
         let is : r ≡ int_max a b = int_eq-true r (int_max a b) em in
-        elim (cond-cases (int_lt b a) a b) [
+        elim (max_cases (int_lt b a) a b) [
           | inl e ↦ absurd (false≢true (sym ex ∙ int_eq-holds r a (is ∙ e)))
           | inr e ↦ absurd (false≢true (sym ey ∙ int_eq-holds r b (is ∙ e)))
         ]

@@ -3,9 +3,8 @@ use Rattle.std.proofs.Common.{◌≡◌, ℕ, true, refl, List, [], ◌∷◌, A
 use Rattle.std.specs.List.{AllZip}
 use Rattle.std.proofs.lemmas.Int.{ints}
 use Rattle.std.proofs.lemmas.List.Elements.{All-contains_itself, All-cons, All-head, All-nil, All-tail, All-weaker}
-use Rattle.spd_scaled.specs.Scaled.{IsWithin, floor_div, ceil_div}
-use Rattle.spd_scaled.proofs.CallerLemmas.Ring.{≤ℤ_trans, *ℤ_mono_right}
-use Rattle.spd_scaled.proofs.CallerLemmas.DivisionLaws.{floor_div_mono, floor_div-≤ℤ-ceil_div}
+use Rattle.spd_scaled.specs.Scaled.{IsWithin}
+use Rattle.spd_scaled.proofs.CallerLemmas.Ring.{*ℤ_mono_right}
 use Rattle.spd_cons_core.specs.declared.key.Entry.{Entry}
 use Rattle.spd_model.specs.declared.process.Action.{Action}
 use Rattle.spd_model.specs.Process.{Process}
@@ -17,7 +16,7 @@ use Rattle.spd_model.specs.Backup.{return_of, expectation, low_of, high_of, best
 use Rattle.spd_model.specs.Turns.{IsBounded}
 use Rattle.spd_model.proofs.CallerLemmas.Bounded.{KeepsWithin, ceil_keeps, floor_keeps, return_limited}
 use Rattle.spd_model.proofs.CallerLemmas.Chances.{chances_of}
-use Rattle.spd_model.proofs.CallerLemmas.Gaps.{expected_ordered}
+use Rattle.spd_model.proofs.CallerLemmas.Gaps.{expected_ordered, floor-≤ℤ-ceil}
 use Rattle.spd_model.proofs.CallerLemmas.StateOrder.{IsState-none, length-sizes}
 use Rattle.spd_nodes.specs.declared.leaf.Leaf.TheVariants.{Num, Act}
 use Rattle.spd_nodes.specs.Shown.{Shown, IsSound, Grows, StandsFor, meaning}
@@ -49,9 +48,6 @@ value-of-state s r v stands within = record {
 }
 
 -- ---- the bounds of a process
-
-floor-≤ℤ-ceil : (x y d : ℤ) → pos 0 <ℤ d → x ≤ℤ y → floor_div x d ≤ℤ ceil_div y d
-floor-≤ℤ-ceil x y d p h = ≤ℤ_trans (floor_div x d) (floor_div y d) (ceil_div y d) (floor_div_mono x y d p h) (floor_div-≤ℤ-ceil_div y d p)
 
 way-keeps : (way : Way) → KeepsWithin (rounding_of way)
 way-keeps Down = floor_keeps

@@ -1,6 +1,7 @@
 -- The Bellman residual of a value and its place, by gaps at each state.
 use Rattle.std.specs.Prelude.{◌≡◌, ℕ, true, ◌||◌, if◌then◌else◌, List, [], ◌∷◌, ℤ, pos, ◌-ℤ◌, ◌≤ℤ◌, find, unwrap_or, Result, IfOk}
 use Rattle.std.specs.Int.{int_max}
+use Rattle.std.specs.List.{position_or_len}
 use Rattle.std.specs.Ordering.{int_eq}
 use Rattle.spd_cons_core.specs.declared.key.Entry.{Entry}
 use Rattle.spd_model.specs.declared.Side.TheVariants.{Above, Below}
@@ -10,9 +11,11 @@ use Rattle.spd_model.specs.States.{sizes, states, IsState, table_of}
 use Rattle.spd_model.specs.Backup.{policy_of, highest_of}
 use Rattle.spd_model.specs.Turns.{Place, gap_above, gap_below, residual_of, place_of}
 use Rattle.spd_nodes.specs.declared.forest.StoreFault.{StoreFault}
+use Rattle.spd_nodes.specs.declared.leaf.Leaf.{Leaf}
 use Rattle.spd_nodes.specs.Made.{MakesAll}
 use Rattle.spd_nodes.specs.Shown.{Shown, IsWhole, meaning}
 use Rattle.spd_nodes.specs.States.{Function}
+use Rattle.spd_nodes.specs.Trees.{leaf_eq}
 use Rattle.spd_weigh.specs.Leaves.{number_of, HasValues}
 use Rattle.spd_build.specs.Functions.{numbers}
 use Rattle.spd_backup.specs.declared.backing.Bounds.{Bounds}
@@ -52,6 +55,10 @@ pub record IsResidual (sizes : List ℕ) (g : Gaps) (x : Residual) : Type 0 wher
   pub number : x.r ≡ residual_over sizes g
   pub place : record { state = x.at; side = x.side; action = x.action } ≡ place_over sizes g x.r
   pub state : IsState sizes x.at
+
+-- the number of the first of some bounds whose upper one has a leaf at a state; that of all bounds where none has it
+abbrev pub first_upper : Shown → List Bounds → Leaf → List ℕ → ℕ
+first_upper s bounds leaf x = position_or_len (λ (b : Bounds). leaf_eq leaf (meaning s b.hi x x)) bounds
 
 -- The functions of a residual, by which a turn's nodes are counted: the gap above, the gap below, and the greater of the two.
 abbrev pub residual_functions : Gaps → List Function

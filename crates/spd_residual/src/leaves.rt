@@ -5,7 +5,8 @@ ghost use Rattle.spd_model.specs.States.{IsState};
 ghost use Rattle.spd_nodes.specs.Shown.{Shown, IsWhole, meaning};
 ghost use Rattle.spd_nodes.specs.Trees.{leaf_eq};
 ghost use Rattle.spd_weigh.specs.Leaves.{number_of};
-ghost use Rattle.spd_residual.specs.inner.Finding.{first_upper, action_number, IsLastLeaf};
+ghost use Rattle.spd_residual.specs.Residual.{first_upper};
+ghost use Rattle.spd_residual.specs.inner.Finding.{action_number, IsLastLeaf};
 
 use spd_apply::leaves_of;
 use spd_backup::Bounds;
@@ -67,7 +68,7 @@ pub(crate) fn last_leaf<F: Forest>(
 }
 
 /// The leaf of a diagram at a present state, where the next state is the same one. Calls nest at most as deep as there are levels: 512.
-pub(crate) fn leaf_at<F: Forest>(forest: &mut F, r: Ref, state: &State) -> Leaf
+pub fn leaf_at<F: Forest>(forest: &mut F, r: Ref, state: &State) -> Leaf
     requires known { (F.shows forest.old).knows r ≡ true }
     requires state { IsState (F.shows forest.old).sizes state.now }
     ensures same { F.shows forest.new ≡ F.shows forest.old }
@@ -88,7 +89,7 @@ pub(crate) fn leaf_at<F: Forest>(forest: &mut F, r: Ref, state: &State) -> Leaf
 }
 
 /// The number of the first action whose upper bound has a leaf at a state, or the number of all actions where none has it.
-pub(crate) fn first_upper<F: Forest>(
+pub fn first_upper<F: Forest>(
     forest: &mut F,
     bounds: &[Bounds],
     leaf: Leaf,

@@ -2,8 +2,10 @@
 use spd_edge::{MemIn, MemOut, MemPlace};
 use spd_model::Word;
 use spd_solver::{Status, number, solve_run, write_message};
+use spd_tasks::Open;
 use sqlite_items::Items;
 use std::alloc::AllocError;
+use std::thread::Threads;
 
 /// What a command came to: its exit status, its message, and what its output took.
 #[derive(Drop)]
@@ -59,7 +61,7 @@ fn message<R: AllocGlobal>(rt: &R, status: &Status) -> Result<Vec<u8>, AllocErro
 }
 
 /// What these words come to.
-pub fn run<R: AllocGlobal>(
+pub fn run<R: AllocGlobal + Threads + Sync>(
     rt: &R,
     texts: &[&str],
     outside: Outside<'_>,
@@ -72,7 +74,7 @@ pub fn run<R: AllocGlobal>(
     let mut place = MemPlace::new(rt.alloc());
     place.put_in(b"m", MemIn::new(file, most, failing_reads))?;
     let mut out = MemOut::new(rt.alloc(), outside.room, most, failing_writes)?;
-    let status = solve_run(rt.alloc(), &words, &mut place, &mut out);
+    let status = solve_run(rt, &Open, rt.alloc(), &words, &mut place, &mut out);
     Ok(Answer {
         number: number(&status),
         message: message(rt, &status)?,
@@ -81,6 +83,6 @@ pub fn run<R: AllocGlobal>(
 }
 
 /// What `solve m` comes to for this file.
-pub fn solve<R: AllocGlobal>(rt: &R, file: &[u8]) -> Result<Answer, AllocError> {
+pub fn solve<R: AllocGlobal + Threads + Sync>(rt: &R, file: &[u8]) -> Result<Answer, AllocError> {
     run(rt, &["solve", "m"], Outside::calm(file, 4096))
 }

@@ -1,8 +1,9 @@
 //! Files at their limits, and one step past them.
-use crate::command::solve;
+use crate::command::{Outside, run};
 use crate::refused::assert_ended;
 use std::process::Abort;
 use std::test::Fail;
+use std::thread::Threads;
 
 /// A file whose reward nests `depth` deep.
 fn nested<R: AllocGlobal>(rt: &R, depth: usize) -> Result<Vec<u8>, Fail> {
@@ -197,7 +198,14 @@ const FILES: &[Row] = &[
     ),
 ];
 
-const STATES: &[Row] = &[
+/// On diagrams there may be any number of states.
+const STATES_OF_DIAGRAMS: &[Row] = &[
+    ("4,096 states", Much::Choices(12), 0, ""),
+    ("8,192 states", Much::Choices(13), 0, ""),
+    ("2^100 states", Much::Choices(100), 0, ""),
+];
+
+const STATES_OF_TABLES: &[Row] = &[
     ("4,096 states", Much::Choices(12), 0, ""),
     (
         "8,192 states",
@@ -225,20 +233,31 @@ fn file_of<R: AllocGlobal>(rt: &R, much: Much) -> Result<Vec<u8>, Fail> {
     }
 }
 
-fn assert_rows<R: AllocGlobal + Abort>(rt: &R, rows: &[Row]) -> Result<(), Fail> {
+/// Runs a command on each row.
+fn assert_rows<R: AllocGlobal + Abort + Threads + Sync>(
+    rt: &R,
+    command: &str,
+    rows: &[Row],
+) -> Result<(), Fail> {
     for (what, much, number, message) in rows {
         let file = file_of(rt, *much)?;
-        assert_ended(rt, what, &solve(rt, &file)?, *number, message);
+        let answer = run(rt, &[command, "m"], Outside::calm(&file, 4096))?;
+        assert_ended(rt, what, &answer, *number, message);
     }
     Ok(())
 }
 
 #[test]
 fn files(rt: HostRuntime) -> Result<(), Fail> {
-    assert_rows(&rt, FILES)
+    assert_rows(&rt, "solve", FILES)
 }
 
 #[test]
-fn states(rt: HostRuntime) -> Result<(), Fail> {
-    assert_rows(&rt, STATES)
+fn states_of_diagrams(rt: HostRuntime) -> Result<(), Fail> {
+    assert_rows(&rt, "solve", STATES_OF_DIAGRAMS)
+}
+
+#[test]
+fn states_of_tables(rt: HostRuntime) -> Result<(), Fail> {
+    assert_rows(&rt, "plain", STATES_OF_TABLES)
 }

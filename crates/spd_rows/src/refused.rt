@@ -6,6 +6,7 @@ use crate::files::{ALL, FOLLOWS, KEEP};
 use std::alloc::Global;
 use std::process::Abort;
 use std::test::Fail;
+use std::thread::Threads;
 
 /// The file with the second part in the place where the first stands for the first time.
 fn edited(alloc: Global, file: &[u8], from: &[u8], to: &[u8]) -> Result<Vec<u8>, Fail> {
@@ -35,7 +36,11 @@ pub fn assert_ended<R: Abort>(rt: &R, what: &str, answer: &Answer, number: u8, m
 }
 
 /// Runs `solve` on a file with each of these changes.
-fn assert_edits<R: AllocGlobal + Abort>(rt: &R, file: &str, edits: &[Edit]) -> Result<(), Fail> {
+fn assert_edits<R: AllocGlobal + Abort + Threads + Sync>(
+    rt: &R,
+    file: &str,
+    edits: &[Edit],
+) -> Result<(), Fail> {
     for (what, from, to, number, message) in edits {
         let changed = edited(rt.alloc(), file.as_bytes(), from.as_bytes(), to.as_bytes())?;
         assert_ended(rt, what, &solve(rt, &changed)?, *number, message);

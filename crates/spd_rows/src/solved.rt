@@ -4,6 +4,7 @@ use crate::files::*;
 use crate::texts::*;
 use std::process::Abort;
 use std::test::Fail;
+use std::thread::Threads;
 
 /// A run: what it shows, the file, the options, and the status, the message and the text that it comes to.
 type Row = (
@@ -167,7 +168,11 @@ const ALL_FORMS: &[Row] = &[
 ];
 
 /// Runs a command on each row.
-fn assert_rows<R: AllocGlobal + Abort>(rt: &R, command: &str, rows: &[Row]) -> Result<(), Fail> {
+fn assert_rows<R: AllocGlobal + Abort + Threads + Sync>(
+    rt: &R,
+    command: &str,
+    rows: &[Row],
+) -> Result<(), Fail> {
     for (what, file, options, number, message, output) in rows {
         let mut words = vec![in rt.alloc(); command, "m"]?;
         words.extend_from_slice(options)?;
@@ -180,7 +185,7 @@ fn assert_rows<R: AllocGlobal + Abort>(rt: &R, command: &str, rows: &[Row]) -> R
 }
 
 /// Runs both commands that solve a model on each row.
-fn assert_both<R: AllocGlobal + Abort>(rt: &R, rows: &[Row]) -> Result<(), Fail> {
+fn assert_both<R: AllocGlobal + Abort + Threads + Sync>(rt: &R, rows: &[Row]) -> Result<(), Fail> {
     assert_rows(rt, "solve", rows)?;
     assert_rows(rt, "plain", rows)
 }

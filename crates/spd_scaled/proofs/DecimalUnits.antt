@@ -1,6 +1,6 @@
 -- How many units a decimal is.
 use Rattle.std.proofs.Common.{◌≡◌, ℕ, zero, suc, ◌+◌, ◌*◌, ◌/◌, ◌%◌, ◌^◌, ◌<◌, ◌≤◌, Bool, true, false, cond, eqb, leb, Ok, Err, ℤ, pos, negsuc, ◌-ℤ◌, ◌<ℤ◌, ◌≤ℤ◌, unsigned_abs, refl, sym, ap, arith, lit<}
-use Rattle.std.proofs.Math.Nat.{mul-mod_left, div-mul_cancel, dvd_of_mod-eq-zero, mul-div-mul_right, mul-div_cancel, one-le-pow, pow-le-pow_right, mul-le-mul, mul-le-mul_right, lt-div-mul-add, mod-eq_of_lt}
+use Rattle.std.proofs.Math.Nat.{mul-mod_left, div-mul_cancel, dvd_of_mod-eq-zero, mul-div-mul_right, mul-div_cancel, pow-le-pow_right, mul-le-mul, mul-le-mul_right, lt-div-mul-add, mod-eq_of_lt}
 use Rattle.std.proofs.Math.Arith.{mod-mul}
 use Rattle.std.proofs.lemmas.Nat.{pow-add}
 use Rattle.std.proofs.lemmas.Int.{ints}

@@ -1,4 +1,7 @@
 pub mod SolvingLaws
+pub mod StopLaws
+pub mod NodeCounts
+pub mod BuildLaws
 mod StateTexts
 pub mod TableLaws
 pub mod Causes

@@ -1,5 +1,6 @@
 -- What the stages of a command come to, for the command as a whole.
 use Rattle.std.proofs.Common.{◌≡◌, ◌↔◌, ℕ, ◌+◌, ◌<◌, ◌≤◌, List, length, ℤ, Option, Some, None, IfSome, Result, refl, sym, ap, subst, ◌∙◌, arith}
+use Rattle.std.specs.Arc.{arc_value}
 use Rattle.std.specs.Prelude.{replicate}
 use Rattle.std.proofs.lemmas.List.{length-replicate}
 use Rattle.std.proofs.lemmas.Option.{same_Some, none-some}
@@ -12,20 +13,24 @@ use Rattle.spd_model.specs.declared.options.Options.{Options}
 use Rattle.spd_model.specs.Process.{Process}
 use Rattle.spd_model.specs.Turns.{stop_of}
 use Rattle.spd_model.specs.ResultText.{Iterate, text_of}
+use Rattle.spd_frozen.specs.declared.iterate.Iterate.{Iterate as Solved}
 use Rattle.spd_frozen.specs.Told.{told}
 use Rattle.spd_syntax.specs.declared.unread.Unread.{Unread}
 use Rattle.spd_reader.specs.Reading.{IsRead, TellsRefusal as TellsFault}
+use Rattle.spd_solver.specs.declared.command.Way.{Way}
+use Rattle.spd_solver.specs.declared.command.Way.TheVariants.{Diagrams}
 use Rattle.spd_solver.specs.declared.file.Unreadable.{Unreadable}
 use Rattle.spd_solver.specs.declared.solving.Solution.{Solution}
 use Rattle.spd_solver.specs.declared.solving.Unsolved.{Unsolved}
+use Rattle.spd_solver.specs.declared.status.Stage.{Stage}
 use Rattle.spd_solver.specs.declared.status.Status.{Status}
 use Rattle.spd_solver.specs.declared.status.Status.TheVariants as S
-use Rattle.spd_solver.specs.Command.{Way, Command, solving, AskFor, OnCommand, IsUsage}
-use Rattle.spd_solver.specs.Kind.{Kind, whole, refusal, kind_of}
-use Rattle.spd_solver.specs.Run.{Ends, Refuses, HoldsRefused, Seen, ReadsCalmly, IsUnwritten, Means, Completes, TellsRefusal}
-use Rattle.spd_solver.specs.Solve.{residual, file_limit, IsFileOf, TellsStop, RefusesFile}
+use Rattle.spd_solver.specs.Command.{Command, solving, AskFor, OnCommand, IsUsage}
+use Rattle.spd_solver.specs.Kind.{Kind, whole, refusal, limited, kind_of}
+use Rattle.spd_solver.specs.Run.{Ends, Refuses, Exceeds, HoldsAccepted, HoldsRefused, Seen, ReadsCalmly, IsUnwritten, Means, Completes, TellsRefusal}
+use Rattle.spd_solver.specs.Solve.{residual, file_limit, IsFileOf, TellsStop, RefusesFile, HasMoreNodes, PassesLimit}
 use Rattle.spd_solver.specs.inner.Stages.{IsSolution, IsUnsolved, FailsToRead, Asks, AskWrongly, Answers, ending, finished_status, unreadable_status, unread_status, unsolved_status}
-use Rattle.spd_solver.proofs.Causes.{file_once, file_right}
+use Rattle.spd_solver.proofs.Causes.{file_once, file_right, accepted-right, accepted-within, turn-right}
 
 -- there are bytes longer than this
 some_longer : (n : ℕ) → (bytes : List ℕ) × (n < length bytes)
@@ -78,14 +83,38 @@ module _ (way : Way) (file : List ℕ) (options : Options) (before now : Seen) w
       → Answers (solving way file options) s before now
   refused_answers s kind cause unwritten calm =
       let told = λ (bytes : List ℕ) (is : before.inputs.holds file ≡ Some bytes).
-      subst (λ (b : List ℕ). RefusesFile file b s) (told_of (before.inputs.holds file) bytes (λ (b : List ℕ). cause.0 ≡ b) cause.1 is) cause.2 in
+      subst (λ (b : List ℕ). RefusesFile way file b s) (told_of (before.inputs.holds file) bytes (λ (b : List ℕ). cause.0 ≡ b) cause.1 is) cause.2 in
       record {
         means = subst (λ (k : Kind). Means k (solving way file options) s before now) (sym kind) (cause, unwritten, calm);
         completes = subst (λ (k : Kind). Completes k (solving way file options) before.inputs.holds) (sym kind)
-            (λ accepted. file_right file accepted.0 accepted.1 accepted.3 accepted.4 accepted.5 s (told accepted.0 accepted.2));
+            (λ accepted. accepted-right way file accepted.0 options accepted.1 accepted.3 accepted.4 accepted.5 s (told accepted.0 accepted.2));
         tells = subst (λ (k : Kind). TellsRefusal k (solving way file options) before.inputs.holds s) (sym kind)
-            (λ other refused. file_once file refused.0 s other (told refused.0 refused.1) refused.2);
+            (λ other refused. file_once way file refused.0 s other (told refused.0 refused.1) refused.2);
       }
+
+  -- ---- a node limit that is passed
+
+  exceeded : (stage : Stage) (limit : ℕ) → Exceeds (solving way file options) before.inputs.holds (S.NodeLimit stage limit) → HoldsAccepted (solving way file options) before.inputs.holds → ⊥
+  exceeded stage limit cause accepted =
+      accepted-within way file accepted.0 options accepted.1 accepted.3 accepted.4 accepted.5 stage limit
+      (subst (λ (b : List ℕ). PassesLimit way b options (S.NodeLimit stage limit)) (told_of (before.inputs.holds file) accepted.0 (λ (b : List ℕ). cause.0 ≡ b) cause.1 accepted.2) cause.2)
+
+  limit_tells : (stage : Stage) (limit : ℕ) → Exceeds (solving way file options) before.inputs.holds (S.NodeLimit stage limit)
+      → TellsRefusal limited (solving way file options) before.inputs.holds (S.NodeLimit stage limit)
+  limit_tells Stage.Building limit cause = tt
+  limit_tells (Stage.Turn k) limit cause = λ other refused.
+      absurd (turn-right way file refused.0 options k limit
+      (subst (λ (b : List ℕ). PassesLimit way b options (S.NodeLimit (Stage.Turn k) limit)) (told_of (before.inputs.holds file) refused.0 (λ (b : List ℕ). cause.0 ≡ b) cause.1 refused.1) cause.2)
+      other refused.2)
+
+  -- a limit that has its cause
+  limited_answers : (stage : Stage) (limit : ℕ) → Exceeds (solving way file options) before.inputs.holds (S.NodeLimit stage limit) → IsUnwritten before now → ReadsCalmly (solving way file options) before now
+      → Answers (solving way file options) (S.NodeLimit stage limit) before now
+  limited_answers stage limit cause unwritten calm = record {
+    means = (cause, unwritten, calm);
+    completes = exceeded stage limit cause;
+    tells = limit_tells stage limit cause;
+  }
 
   pub memory_answers : IsUnwritten before now → Answers (solving way file options) S.Memory before now
   memory_answers unwritten = record { means = unwritten; completes = tt; tells = tt }
@@ -105,7 +134,7 @@ module _ (way : Way) (file : List ℕ) (options : Options) (before now : Seen) w
 
   module _ (bytes : List ℕ) (read : WasRead file bytes before now) where
     -- the file that was read is refused
-    read_refused : (s : Status) → kind_of s ≡ refusal → RefusesFile file bytes s → IsUnwritten before now → Answers (solving way file options) s before now
+    read_refused : (s : Status) → kind_of s ≡ refusal → RefusesFile way file bytes s → IsUnwritten before now → Answers (solving way file options) s before now
     read_refused s kind cause unwritten =
         refused_answers s kind (bytes, read.held, cause) unwritten (reads_calmly read.closed read.calm)
 
@@ -117,16 +146,18 @@ module _ (way : Way) (file : List ℕ) (options : Options) (before now : Seen) w
       file_is : IsFileOf bytes m
       file_is = record { short = read.short; reads = is }
 
-      pub unsolved_answers : (why : Unsolved) → IsUnsolved m why → IsUnwritten before now → Answers (solving way file options) (unsolved_status why) before now
+      pub unsolved_answers : (why : Unsolved) → IsUnsolved way m options why → IsUnwritten before now → Answers (solving way file options) (unsolved_status why) before now
       unsolved_answers (Unsolved.TooManyStates product) cause unwritten = read_refused (S.TooManyStates product) refl (m, file_is, cause) unwritten
       unsolved_answers (Unsolved.Sum action var state sum) cause unwritten = read_refused (S.Sum action var state sum) refl (m, file_is, cause) unwritten
       unsolved_answers (Unsolved.Range action state value) cause unwritten = read_refused (S.Range action state value) refl (m, file_is, cause) unwritten
+      unsolved_answers (Unsolved.NodeLimit stage limit) cause unwritten =
+          limited_answers stage limit (bytes, read.held, (m, file_is, cause.0, cause.1, cause.2)) unwritten (reads_calmly read.closed read.calm)
       unsolved_answers Unsolved.Memory cause unwritten = memory_answers unwritten
 
       -- ---- what is solved
 
-      module _ (digest : List ℕ) (named : digest ≡ sha256 bytes) (x : Solution) (h : IsSolution m options x) where
-        ended : Ends (solving way file options) before.inputs.holds (finished_status x) (text_of digest m x.why (told x.iterate))
+      module _ (digest : List ℕ) (named : digest ≡ sha256 bytes) (x : Solution) (h : IsSolution way m options x) where
+        ended : Ends (solving way file options) before.inputs.holds (finished_status x) (text_of digest m x.why (told (arc_value x.iterate)))
         ended = (
           bytes,
           read.held,
@@ -134,10 +165,10 @@ module _ (way : Way) (file : List ℕ) (options : Options) (before now : Seen) w
             process = m;
             file = file_is;
             valid = h.valid;
-            stop = tells_stop m options x.why x.iterate.residual.r h.why (ap (λ (i : Iterate). i.residual) h.iterate);
+            stop = tells_stop m options x.why (arc_value x.iterate).residual.r h.why (ap (λ (i : Iterate). i.residual) h.iterate);
             written = (λ i. text_of (named i) m (h.why i) (h.iterate i));
             near_optimal = h.near_optimal;
-            enough = λ k enough within. done_status x.why x.iterate.residual.r (h.enough k enough within);
+            enough = λ k enough within. done_status x.why (arc_value x.iterate).residual.r (h.enough k enough within);
           },
         )
 
@@ -145,37 +176,47 @@ module _ (way : Way) (file : List ℕ) (options : Options) (before now : Seen) w
         not_refused : (s : Status) → HoldsRefused (solving way file options) before.inputs.holds s → ⊥
         not_refused s refused =
             let same = told_of (before.inputs.holds file) refused.0 (λ (b : List ℕ). bytes ≡ b) read.held refused.1 in
-            file_right file bytes m file_is h.valid h.few s (subst (λ (b : List ℕ). RefusesFile file b s) (sym same) refused.2)
+            file_right way file bytes m file_is h.valid h.takes s (subst (λ (b : List ℕ). RefusesFile way file b s) (sym same) refused.2)
 
-        pub cut_answers : TookFront before.taken (text_of digest m x.why (told x.iterate)) now.taken → Rose before.faults now.faults
-            → Answers (solving way file options) S.WriteFault before now
-        cut_answers front rose = record {
-          means = (text_of digest m x.why (told x.iterate), finished_status x, ended, front, rose, reads_calmly read.closed read.calm);
-          completes = tt;
-          tells = λ s refused. absurd (not_refused s refused);
-        }
+        -- what was written is the text of what the solution tells
+        module _ (y : Solved) (same : y ≡ arc_value x.iterate) where
+          pub cut_answers : TookFront before.taken (text_of digest m x.why (told y)) now.taken → Rose before.faults now.faults
+              → Answers (solving way file options) S.WriteFault before now
+          cut_answers front rose = record {
+            means = (
+              text_of digest m x.why (told (arc_value x.iterate)),
+              finished_status x,
+              ended,
+              subst (λ (z : Solved). TookFront before.taken (text_of digest m x.why (told z)) now.taken) same front,
+              rose,
+              reads_calmly read.closed read.calm,
+            );
+            completes = tt;
+            tells = λ s refused. absurd (not_refused s refused);
+          }
 
-        pub whole_answers : Took before.taken (text_of digest m x.why (told x.iterate)) now.taken → now.faults ≡ before.faults
-            → Answers (solving way file options) (finished_status x) before now
-        whole_answers took same =
-            let kind = sym (finished_whole x.why x.iterate.residual.r) in
-            record {
-              means = subst (λ (k : Kind). Means k (solving way file options) (finished_status x) before now) kind
-                  (text_of digest m x.why (told x.iterate), ended, took, same, reads_calmly read.closed read.calm);
-              completes = subst (λ (k : Kind). Completes k (solving way file options) before.inputs.holds) kind tt;
-              tells = subst (λ (k : Kind). TellsRefusal k (solving way file options) before.inputs.holds (finished_status x)) kind
-                  (λ s refused. absurd (not_refused s refused));
-            }
+          pub whole_answers : Took before.taken (text_of digest m x.why (told y)) now.taken → now.faults ≡ before.faults
+              → Answers (solving way file options) (finished_status x) before now
+          whole_answers took calm =
+              let kind = sym (finished_whole x.why (arc_value x.iterate).residual.r) in
+              let written = subst (λ (z : Solved). Took before.taken (text_of digest m x.why (told z)) now.taken) same took in
+              record {
+                means = subst (λ (k : Kind). Means k (solving way file options) (finished_status x) before now) kind
+                    (text_of digest m x.why (told (arc_value x.iterate)), ended, written, calm, reads_calmly read.closed read.calm);
+                completes = subst (λ (k : Kind). Completes k (solving way file options) before.inputs.holds) kind tt;
+                tells = subst (λ (k : Kind). TellsRefusal k (solving way file options) before.inputs.holds (finished_status x)) kind
+                    (λ s refused. absurd (not_refused s refused));
+              }
 
 -- ---- for the words that were given
 
-module _ (words : List (List ℕ)) (file : List ℕ) (options : Options) (outcome : Result Status Status) (status : Status) (before now : Seen)
-    (is : status ≡ ending outcome) (asks : Asks words file options) (answers : (way : Way) → Answers (solving way file options) (ending outcome) before now) where
+module _ (words : List (List ℕ)) (way : Way) (file : List ℕ) (options : Options) (outcome : Result Status Status) (status : Status) (before now : Seen)
+    (is : status ≡ ending outcome) (asks : Asks words way file options) (answers : Answers (solving way file options) (ending outcome) before now) where
   -- what is answered to the command that the words ask for
   answered : (command : Command) → AskFor words command → Answers command status before now
   answered command asked =
       subst (λ (other : Command). Answers other status before now) (sym (asks.once command asked))
-      (subst (λ (s : Status). Answers (solving asks.way file options) s before now) (sym is) (answers asks.way))
+      (subst (λ (s : Status). Answers (solving way file options) s before now) (sym is) answers)
 
   pub means : OnCommand words (λ command. Means (kind_of status) command status before now)
   means command asked = (answered command asked).means
@@ -195,7 +236,7 @@ module _ (words : List (List ℕ)) (file : List ℕ) (options : Options) (outcom
   -- a command that was run doesn't end for its words
   pub runs : (word : ℕ) → (status ≡ S.Usage word) ↔ IsUsage words word
   runs word = (
-    λ wrong. absurd (subst (λ (s : Status). Means (kind_of s) (solving asks.way file options) s before now) wrong (means (solving asks.way file options) asks.asked)),
+    λ wrong. absurd (subst (λ (s : Status). Means (kind_of s) (solving way file options) s before now) wrong (means (solving way file options) asks.asked)),
     λ wrong. absurd (asks.right word wrong),
   )
 

@@ -1,7 +1,8 @@
 -- From what value iteration on tables comes to, to the solution of a process and to why it has none.
+use Rattle.std.specs.Arc.{arc_value}
 use Rattle.std.proofs.Common.{◌≡◌, ℕ, ◌<◌, ◌≤◌, true, List, length, All, pos, sym, ap, subst, ◌∙◌}
 use Rattle.spd_scaled.specs.Scaled.{IsWithin}
-use Rattle.spd_model.specs.declared.Why.TheVariants as Why
+use Rattle.spd_model.specs.declared.Why.{Why}
 use Rattle.spd_model.specs.declared.options.Options.{Options}
 use Rattle.spd_model.specs.Process.{Process}
 use Rattle.spd_model.specs.States.{sizes, IsState}
@@ -12,11 +13,12 @@ use Rattle.spd_model.proofs.CallerLemmas.StateOrder.{length-IsState, length-size
 use Rattle.spd_bellman.specs.Bound.{IsNearOptimal}
 use Rattle.spd_bellman.specs.TurnBound.{is_enough}
 use Rattle.spd_plain.specs.declared.Plain.{Plain}
-use Rattle.spd_plain.specs.Plain.{plain_of, told_of}
-use Rattle.spd_frozen.specs.declared.iterate.Iterate.{Iterate}
+use Rattle.spd_plain.specs.Plain.{plain_of}
 use Rattle.spd_frozen.specs.Fits.{FitsModel}
 use Rattle.spd_frozen.specs.Told.{told}
-use Rattle.spd_solver.specs.Solve.{value, HasFewStates}
+use Rattle.spd_solver.specs.declared.command.Way.{Way}
+use Rattle.spd_solver.specs.declared.solving.Solution.{Solution}
+use Rattle.spd_solver.specs.Solve.{value, TakesStates}
 use Rattle.spd_solver.specs.inner.Stages.{IsSolution}
 use Rattle.spd_solver.proofs.TableLaws.{policy_within, place_within}
 
@@ -32,19 +34,20 @@ module _ (m : Process) (options : Options) (p : Plain) (is : p ≡ plain_of m op
       let w = stop_value m options.turns options.span in
       subst (λ (q : Plain). q.action < length m.actions) (sym is) (place_within m w some (residual_of m w))
 
-  pub is_solution : (x : Iterate) → IsValid m → told x ≡ told_of m p → told_of m p ≡ result_of m options.turns options.span
-      → IsNearOptimal m (value m options)
-      → ((k : ℕ) → is_enough m options.span k ≡ true → k ≤ options.turns → (stop_of m options.turns options.span).why ≡ Why.Done)
-      → FitsModel m x → HasFewStates m → IsSolution m options (record { iterate = x; why = p.why })
-  is_solution x valid tells result near done fits few = record {
-    valid = valid;
-    why = ap (λ (q : Plain). q.why) is;
-    iterate = tells ∙ result;
-    near_optimal = near;
-    enough = λ k enough within. ap (λ (q : Plain). q.why) is ∙ done k enough within;
-    fits = fits;
-    few = few;
-  }
+-- what a run comes to, where it stops for this cause and tells the result
+pub is_solution : (way : Way) (m : Process) (options : Options) (x : Solution) → IsValid m → x.why ≡ (stop_of m options.turns options.span).why
+    → told (arc_value x.iterate) ≡ result_of m options.turns options.span → IsNearOptimal m (value m options)
+    → ((k : ℕ) → is_enough m options.span k ≡ true → k ≤ options.turns → (stop_of m options.turns options.span).why ≡ Why.Done)
+    → FitsModel m (arc_value x.iterate) → TakesStates way m → IsSolution way m options x
+is_solution way m options x valid why iterate near done fits takes = record {
+  valid = valid;
+  why = why;
+  iterate = iterate;
+  near_optimal = near;
+  enough = λ k enough within. why ∙ done k enough within;
+  fits = fits;
+  takes = takes;
+}
 
 -- a state has a value for each variable
 pub state_length : (m : Process) (s : List ℕ) → IsState (sizes m) s → length s ≡ length m.vars

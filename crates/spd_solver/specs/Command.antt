@@ -4,22 +4,19 @@ use Rattle.spd_model.specs.declared.options.Options.{Options}
 use Rattle.spd_words.specs.declared.command.Command.{Command as Said}
 use Rattle.spd_words.specs.Commands.{IsCommand, IsUsage as IsNoCommand}
 use Rattle.spd_words.specs.Standing.{text_at}
-
--- The two ways to solve a model: `solve`, and `plain`, which goes over tables. Until `solve` goes over decision diagrams it goes over
--- tables too.
-pub data Way : Type 0 where
-  solve : Way
-  plain : Way
+use Rattle.spd_solver.specs.declared.command.Way.{Way}
+use Rattle.spd_solver.specs.declared.command.Way.TheVariants.{Diagrams, Tables}
 
 -- what the top call runs
 pub data Command : Type 0 where
-  -- solve the model in the file of this name
+  -- solve the model in the file of this name in one of the two ways
   solving : Way → List ℕ → Options → Command
 
--- the command that words say, where it is one that the top call runs; a file's name is the word of its number
+-- The command that words say, where it is one that the top call runs: `solve` goes over decision diagrams, and `plain` over tables. A
+-- file's name is the word of its number.
 abbrev pub command_of : List (List ℕ) → Said → Option Command
-command_of words (Said.Solve file options) = Some (solving solve (text_at words file) options)
-command_of words (Said.Plain file options) = Some (solving plain (text_at words file) options)
+command_of words (Said.Solve file options) = Some (solving Diagrams (text_at words file) options)
+command_of words (Said.Plain file options) = Some (solving Tables (text_at words file) options)
 command_of words _ = None
 
 -- the words ask for this command

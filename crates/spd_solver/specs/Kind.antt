@@ -1,6 +1,6 @@
 -- How a command can end, whatever it does.
 use Rattle.spd_solver.specs.declared.status.Status.{Status}
-use Rattle.spd_solver.specs.declared.status.Status.TheVariants.{Done, Usage, OpenFault, ReadFault, TooLong, Refused, TooManyStates, Sum, Range, TurnLimit, WriteFault, Memory}
+use Rattle.spd_solver.specs.declared.status.Status.TheVariants.{Done, Usage, OpenFault, ReadFault, TooLong, Refused, TooManyStates, Sum, Range, TurnLimit, NodeLimit, WriteFault, Memory}
 
 pub data Kind : Type 0 where
   -- the job is finished, and its text was written whole
@@ -9,6 +9,8 @@ pub data Kind : Type 0 where
   cut : Kind
   -- what the files hold is refused
   refusal : Kind
+  -- a stage has more nodes than the options allow
+  limited : Kind
   -- a file couldn't be opened or read
   outside : Kind
   -- memory was wanted and not found
@@ -25,6 +27,7 @@ kind_of (Refused fault) = refusal
 kind_of (TooManyStates product) = refusal
 kind_of (Sum action var state sum) = refusal
 kind_of (Range action state value) = refusal
+kind_of (NodeLimit stage limit) = limited
 kind_of (OpenFault name) = outside
 kind_of (ReadFault name) = outside
 kind_of Memory = memory

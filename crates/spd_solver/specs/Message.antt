@@ -5,8 +5,10 @@ use Rattle.spd_scaled.specs.Units.{units_text}
 use Rattle.spd_syntax.specs.declared.refusal.Refusal.{Refusal}
 use Rattle.spd_syntax.specs.declared.refusal.Want.{Want}
 use Rattle.spd_syntax.specs.declared.refusal.What.{What}
+use Rattle.spd_solver.specs.declared.status.Stage.{Stage}
+use Rattle.spd_solver.specs.declared.status.Stage.TheVariants.{Building, Turn}
 use Rattle.spd_solver.specs.declared.status.Status.{Status}
-use Rattle.spd_solver.specs.declared.status.Status.TheVariants.{Done, Usage, OpenFault, ReadFault, TooLong, Refused, TooManyStates, Sum, Range, TurnLimit, WriteFault, Memory}
+use Rattle.spd_solver.specs.declared.status.Status.TheVariants.{Done, Usage, OpenFault, ReadFault, TooLong, Refused, TooManyStates, Sum, Range, TurnLimit, NodeLimit, WriteFault, Memory}
 
 abbrev pub status_number : Status → ℕ
 status_number Done = 0
@@ -18,6 +20,7 @@ status_number (Refused refusal) = 5
 status_number (Sum action var state sum) = 6
 status_number (Range action state value) = 7
 status_number (TurnLimit residual) = 8
+status_number (NodeLimit stage limit) = 9
 status_number WriteFault = 12
 status_number (TooManyStates product) = 13
 status_number Memory = 14
@@ -93,6 +96,15 @@ sum_message action var state sum =
 abbrev pub range_message : List ℕ → List ℕ → List ℕ → List ℕ
 range_message action state value = concat (codes "reward of action " ∷ action ∷ codes " at " ∷ state ∷ codes " is " ∷ value ∷ newline ∷ [])
 
+-- the stage that has more nodes than it may have
+abbrev pub stage_words : Stage → List ℕ
+stage_words Building = codes "building"
+stage_words (Turn k) = codes "turn " ++ decimal k
+
+-- the message of a node limit that was passed
+abbrev pub limit_message : Stage → ℕ → List ℕ
+limit_message stage limit = concat (codes "node limit " ∷ decimal limit ∷ codes " passed in " ∷ stage_words stage ∷ newline ∷ [])
+
 -- one line, or nothing for Done; sums have 12 digits after the point, rewards and residuals nine
 abbrev pub message_of : Status → List ℕ
 message_of Done = []
@@ -105,5 +117,6 @@ message_of (TooManyStates product) = concat (codes "too many states: " ∷ decim
 message_of (Sum action var state sum) = sum_message action var state (units_text 12 sum)
 message_of (Range action state value) = range_message action state (units_text 9 value)
 message_of (TurnLimit residual) = concat (codes "turn limit reached, residual " ∷ units_text 9 residual ∷ newline ∷ [])
+message_of (NodeLimit stage limit) = limit_message stage limit
 message_of WriteFault = concat (codes "cannot write" ∷ newline ∷ [])
 message_of Memory = concat (codes "out of memory" ∷ newline ∷ [])

@@ -6,11 +6,12 @@ use Rattle.spd_edge.specs.Told.{Took, TookFront}
 use Rattle.spd_edge.specs.declared.outside.Stage.TheVariants as Stage
 use Rattle.spd_model.specs.Process.{Process}
 use Rattle.spd_model.specs.Chances.{IsValid}
+use Rattle.spd_solver.specs.declared.status.Stage.TheVariants.{Building}
 use Rattle.spd_solver.specs.declared.status.Status.{Status}
-use Rattle.spd_solver.specs.declared.status.Status.TheVariants.{OpenFault, ReadFault}
+use Rattle.spd_solver.specs.declared.status.Status.TheVariants.{OpenFault, ReadFault, NodeLimit}
 use Rattle.spd_solver.specs.Command.{Command, solving}
-use Rattle.spd_solver.specs.Kind.{Kind, whole, cut, refusal, outside, memory, usage}
-use Rattle.spd_solver.specs.Solve.{IsFileOf, IsSolved, HasFewStates, RefusesFile}
+use Rattle.spd_solver.specs.Kind.{Kind, whole, cut, refusal, limited, outside, memory, usage}
+use Rattle.spd_solver.specs.Solve.{IsFileOf, IsSolved, RefusesFile, PassesLimit, IsWithinLimits}
 
 -- the bytes that a place holds under each name, where it tells them
 abbrev pub Held : Type 0
@@ -33,16 +34,20 @@ Ends (solving way file options) held status text = (bytes : List ℕ) × AreOf h
 
 -- Why a command's files are refused.
 abbrev pub Refuses : Command → Held → Status → Type 0
-Refuses (solving way file options) held status = (bytes : List ℕ) × AreOf held file bytes × RefusesFile file bytes status
+Refuses (solving way file options) held status = (bytes : List ℕ) × AreOf held file bytes × RefusesFile way file bytes status
+
+-- Why the node limit is told of a command's files.
+abbrev pub Exceeds : Command → Held → Status → Type 0
+Exceeds (solving way file options) held status = (bytes : List ℕ) × AreOf held file bytes × PassesLimit way bytes options status
 
 -- The place tells files of a command that are refused.
 abbrev pub HoldsRefused : Command → Held → Status → Type 0
-HoldsRefused (solving way file options) held status = (bytes : List ℕ) × (held file ≡ Some bytes) × RefusesFile file bytes status
+HoldsRefused (solving way file options) held status = (bytes : List ℕ) × (held file ≡ Some bytes) × RefusesFile way file bytes status
 
--- The place tells files of a command that are as they should be.
+-- The place tells files of a command that are as they should be, of processes within the limits.
 abbrev pub HoldsAccepted : Command → Held → Type 0
 HoldsAccepted (solving way file options) held =
-    (bytes : List ℕ) × (m : Process) × (held file ≡ Some bytes) × IsFileOf bytes m × IsValid m × HasFewStates m
+    (bytes : List ℕ) × (m : Process) × (held file ≡ Some bytes) × IsFileOf bytes m × IsValid m × IsWithinLimits way m options
 
 -- ---- what each kind of end means, whatever the command is
 
@@ -76,7 +81,7 @@ FailsToRead command _ before now = ⊥
 
 -- What an end of each kind means for a command. Whole: its files were read, and the output took the text of the finished job, and
 -- nothing else. Cut: its files were read, a write failed, and the output took a front of that text. Otherwise nothing was written, and
--- what is refused was read and has its cause in the files.
+-- what is refused or passes the node limit was read and has its cause in the files.
 abbrev pub Means : Kind → Command → Status → Seen → Seen → Type 0
 Means whole command status before now =
     (text : List ℕ) × Ends command before.inputs.holds status text × Took before.taken text now.taken × (now.faults ≡ before.faults)
@@ -85,18 +90,23 @@ Means cut command status before now =
     (text : List ℕ) × (finished : Status) × Ends command before.inputs.holds finished text × TookFront before.taken text now.taken
     × Rose before.faults now.faults × ReadsCalmly command before now
 Means refusal command status before now = Refuses command before.inputs.holds status × IsUnwritten before now × ReadsCalmly command before now
+Means limited command status before now = Exceeds command before.inputs.holds status × IsUnwritten before now × ReadsCalmly command before now
 Means outside command status before now = FailsToRead command status before now × IsUnwritten before now
 Means memory command status before now = IsUnwritten before now
 Means usage command status before now = ⊥
 
--- A command whose files are as they should be isn't refused: it is finished, unless the outside fails or memory runs out.
+-- A command whose files are as they should be isn't refused and passes no limit: it is finished, unless the outside fails or memory runs
+-- out.
 abbrev pub Completes : Kind → Command → Held → Type 0
 Completes refusal command held = HoldsAccepted command held → ⊥
+Completes limited command held = HoldsAccepted command held → ⊥
 Completes usage command held = ⊥
 Completes _ command held = Unit {0}
 
--- A command whose files are refused ends with that refusal, unless the outside fails or memory runs out.
+-- A command whose files are refused ends with that refusal, unless the outside fails, memory runs out, or building has more nodes than
+-- the options allow: which of two such causes is told is left open.
 abbrev pub TellsRefusal : Kind → Command → Held → Status → Type 0
 TellsRefusal outside command held status = Unit {0}
 TellsRefusal memory command held status = Unit {0}
+TellsRefusal limited command held (NodeLimit Building limit) = Unit {0}
 TellsRefusal _ command held status = (refused : Status) → HoldsRefused command held refused → status ≡ refused

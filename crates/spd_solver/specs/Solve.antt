@@ -1,20 +1,27 @@
 -- What solving the process of a model file means, and why it is refused.
-use Rattle.std.specs.Prelude.{ℕ, ◌<◌, ◌≤◌, ◌≡◌, true, List, length, ℤ, Some, None}
+use Rattle.std.specs.Prelude.{ℕ, ◌<◌, ◌≤◌, ◌≡◌, true, false, List, length, ℤ, Some, None}
 use Rattle.std.specs.List.{join_with_byte}
 use Rattle.sha2.specs.Sha256.{sha256}
 use Rattle.spd_model.specs.declared.Why.TheVariants as Why
 use Rattle.spd_model.specs.Process.{Process}
 use Rattle.spd_model.specs.States.{sizes, state_count}
 use Rattle.spd_model.specs.Chances.{IsValid, Sum, first_wrong_sum, Reward, first_wide_reward}
-use Rattle.spd_model.specs.Turns.{residual_of, stop_of, stop_value}
+use Rattle.spd_model.specs.Turns.{residual_of, rule_at, stop_of, stop_value}
 use Rattle.spd_model.specs.ResultText.{action_name, var_name, state_words, result_text}
 use Rattle.spd_plain.specs.Space.{state_limit, first_large_product}
 use Rattle.spd_bellman.specs.Bound.{IsNearOptimal}
 use Rattle.spd_bellman.specs.TurnBound.{is_enough}
+use Rattle.spd_build.specs.Functions.{building_functions}
+use Rattle.spd_turn.specs.Turn.{count_nodes}
+use Rattle.spd_turn.specs.Attempts.{nodes_of_turn}
 use Rattle.spd_model.specs.declared.options.Options.{Options}
-use Rattle.spd_solver.specs.declared.status.Status.{Status}
 use Rattle.spd_reader.specs.Reading.{IsRead, IsRefused}
-use Rattle.spd_solver.specs.declared.status.Status.TheVariants.{Done, TooLong, Refused, TooManyStates, Sum as WrongSum, Range as WideReward, TurnLimit}
+use Rattle.spd_solver.specs.declared.command.Way.{Way}
+use Rattle.spd_solver.specs.declared.command.Way.TheVariants.{Diagrams, Tables}
+use Rattle.spd_solver.specs.declared.status.Stage.{Stage}
+use Rattle.spd_solver.specs.declared.status.Stage.TheVariants.{Building, Turn}
+use Rattle.spd_solver.specs.declared.status.Status.{Status}
+use Rattle.spd_solver.specs.declared.status.Status.TheVariants.{Done, TooLong, Refused, TooManyStates, Sum as WrongSum, Range as WideReward, TurnLimit, NodeLimit}
 
 -- the most bytes that a model file may have
 abbrev pub file_limit : ℕ
@@ -58,6 +65,11 @@ pub record IsSolved (bytes : List ℕ) (options : Options) (status : Status) (te
 abbrev pub HasFewStates : Process → Type 0
 HasFewStates m = state_count (sizes m) ≤ state_limit
 
+-- what a way asks of the number of states: tables are made of few states alone, diagrams of any number of them
+abbrev pub TakesStates : Way → Process → Type 0
+TakesStates Tables m = HasFewStates m
+TakesStates Diagrams m = Unit {0}
+
 -- a state in words, parted by spaces
 abbrev pub state_text : Process → List ℕ → List ℕ
 state_text m s = join_with_byte 32 (state_words m s)
@@ -74,19 +86,48 @@ pub record TellsReward (m : Process) (x : Reward) (action state : List ℕ) (val
   pub state_is : state ≡ state_text m x.state
   pub value_is : value ≡ x.value
 
--- Why a process isn't solved, in this order: it has more states than tables are made of, its first sum of probabilities that isn't
--- one, its first reward that passes the limit.
-abbrev pub RefusesProcess : Process → Status → Type 0
-RefusesProcess m (TooManyStates product) = (state_limit < state_count (sizes m)) × (first_large_product m ≡ Some product)
-RefusesProcess m (WrongSum action var state sum) =
-    (x : Sum) × HasFewStates m × (first_wrong_sum m ≡ Some x) × Tells m x action var state sum × (IsValid m → ⊥)
-RefusesProcess m (WideReward action state reward) =
-    (x : Reward) × HasFewStates m × (first_wrong_sum m ≡ None) × (first_wide_reward m ≡ Some x) × TellsReward m x action state reward
+-- Why a process isn't solved, in this order: it has more states than tables are made of, where it is solved over them; its first sum of
+-- probabilities that isn't one; its first reward that passes the limit.
+abbrev pub RefusesProcess : Way → Process → Status → Type 0
+RefusesProcess way m (TooManyStates product) = (way ≡ Tables) × (state_limit < state_count (sizes m)) × (first_large_product m ≡ Some product)
+RefusesProcess way m (WrongSum action var state sum) =
+    (x : Sum) × TakesStates way m × (first_wrong_sum m ≡ Some x) × Tells m x action var state sum × (IsValid m → ⊥)
+RefusesProcess way m (WideReward action state reward) =
+    (x : Reward) × TakesStates way m × (first_wrong_sum m ≡ None) × (first_wide_reward m ≡ Some x) × TellsReward m x action state reward
     × (IsValid m → ⊥)
-RefusesProcess m _ = ⊥
+RefusesProcess way m _ = ⊥
 
 -- Why the file of this name isn't solved, in this order: it is too long, it is read as no process, its process isn't solved.
-abbrev pub RefusesFile : List ℕ → List ℕ → Status → Type 0
-RefusesFile file bytes (TooLong name) = (name ≡ file) × (file_limit < length bytes)
-RefusesFile file bytes (Refused refusal) = (length bytes ≤ file_limit) × IsRefused bytes refusal
-RefusesFile file bytes status = (m : Process) × IsFileOf bytes m × RefusesProcess m status
+abbrev pub RefusesFile : Way → List ℕ → List ℕ → Status → Type 0
+RefusesFile way file bytes (TooLong name) = (name ≡ file) × (file_limit < length bytes)
+RefusesFile way file bytes (Refused refusal) = (length bytes ≤ file_limit) × IsRefused bytes refusal
+RefusesFile way file bytes status = (m : Process) × IsFileOf bytes m × RefusesProcess way m status
+
+-- ---- the node limit of diagrams
+
+-- the nodes of building a process
+abbrev pub nodes_of_building : Process → ℕ
+nodes_of_building m = count_nodes (sizes m) (building_functions m)
+
+-- The run of a process comes to turn k: the turn limit allows it, and the stop rule holds at no turn before.
+pub record ComesTo (m : Process) (options : Options) (k : ℕ) : Type 0 where
+  pub within : k ≤ options.turns
+  pub before : (j : ℕ) → j < k → rule_at m options.span j ≡ false
+
+-- A stage has more nodes than the options allow. A turn is a stage of a valid process's run alone, which comes to it.
+abbrev pub HasMoreNodes : Process → Options → Stage → Type 0
+HasMoreNodes m options Building = options.nodes < nodes_of_building m
+HasMoreNodes m options (Turn k) = IsValid m × ComesTo m options k × (options.nodes < nodes_of_turn m options.span k)
+
+-- Why the node limit is told, on diagrams alone: the named stage of the file's process has more nodes than the options allow.
+abbrev pub PassesLimit : Way → List ℕ → Options → Status → Type 0
+PassesLimit way bytes options (NodeLimit stage limit) =
+    (m : Process) × IsFileOf bytes m × (way ≡ Diagrams) × (limit ≡ options.nodes) × HasMoreNodes m options stage
+PassesLimit way bytes options _ = ⊥
+
+-- A process is within the limits of a way: tables are made of few states; on diagrams neither building nor a turn that the run comes to
+-- has more nodes than the options allow.
+abbrev pub IsWithinLimits : Way → Process → Options → Type 0
+IsWithinLimits Tables m options = HasFewStates m
+IsWithinLimits Diagrams m options =
+    (nodes_of_building m ≤ options.nodes) × ((k : ℕ) → ComesTo m options k → nodes_of_turn m options.span k ≤ options.nodes)

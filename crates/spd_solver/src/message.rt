@@ -5,7 +5,7 @@ ghost use Rattle.spd_solver.specs.Message.{status_number, message_of};
 
 use crate::pieces::write_pieces;
 use crate::refusals::{place_of, words_of};
-use crate::status::Status;
+use crate::status::{Stage, Status};
 use itoa::Buffer;
 use spd_edge::{Failed, Sink};
 use spd_model::Text;
@@ -25,6 +25,7 @@ pub fn number(status: &Status) -> u8
         Status::Sum { .. } => 6,
         Status::Range { .. } => 7,
         Status::TurnLimit { .. } => 8,
+        Status::NodeLimit { .. } => 9,
         Status::WriteFault => 12,
         Status::TooManyStates { .. } => 13,
         Status::Memory => 14,
@@ -149,6 +150,36 @@ fn write_turn_limit<K: Sink>(k: &mut K, residual: i128) -> Result<(), Failed>
     )
 }
 
+/// Writes the message of a stage with more nodes than its limit.
+fn write_node_limit<K: Sink>(k: &mut K, stage: Stage, limit: u32) -> Result<(), Failed>
+    ensures text { Wrote (K.taken k.old) (message_of (Status.NodeLimit stage limit)) result (K.taken k.new) }
+    ensures count { Counted (K.faults k.old) result (K.faults k.new) }
+    ensures named { K.name k.new ≡ K.name k.old }
+{
+    let mut digits = Buffer::new();
+    let nodes = digits.format(limit);
+    match stage {
+        Stage::Building => write_pieces(
+            k,
+            &[b"node limit ", nodes.as_bytes(), b" passed in building\n"],
+        ),
+        Stage::Turn(turn) => {
+            let mut digits = Buffer::new();
+            let number = digits.format(turn);
+            write_pieces(
+                k,
+                &[
+                    b"node limit ",
+                    nodes.as_bytes(),
+                    b" passed in turn ",
+                    number.as_bytes(),
+                    b"\n",
+                ],
+            )
+        }
+    }
+}
+
 /// Writes the message of a status: one line, or nothing for `Done`.
 ///
 /// # Errors
@@ -179,6 +210,7 @@ pub fn write_message<K: Sink>(status: &Status, k: &mut K) -> Result<(), Failed>
             value,
         } => write_range(k, action, state, *value),
         Status::TurnLimit { residual } => write_turn_limit(k, *residual),
+        Status::NodeLimit { stage, limit } => write_node_limit(k, *stage, *limit),
         Status::WriteFault => write_pieces(k, &[b"cannot write", b"\n"]),
         Status::Memory => write_pieces(k, &[b"out of memory", b"\n"]),
     }

@@ -5,21 +5,24 @@ ghost use Rattle.spd_edge.specs.Counts.{NoneFalls};
 ghost use Rattle.spd_edge.specs.Told.{Took};
 ghost use Rattle.spd_edge.specs.declared.outside.Stage.TheVariants as Stage;
 ghost use Rattle.spd_model.specs.Options.{AreOptions};
-ghost use Rattle.spd_solver.specs.Command.{Way, OnCommand, IsUsage, solving};
+ghost use Rattle.spd_solver.specs.Command.{OnCommand, IsUsage, solving};
 ghost use Rattle.spd_solver.specs.Kind.{kind_of, whole};
 ghost use Rattle.spd_solver.specs.Run.{Reads, Ends, Means, Completes, TellsRefusal, seen};
 ghost use Rattle.spd_solver.specs.inner.Stages.{Answers, ending, finished_status};
 
-use crate::command::{Job, read_job};
+use crate::command::{Job, Way, read_job};
 use crate::file::{FILE_LIMIT, read_file};
 use crate::solving::{Solution, solve_model};
 use crate::status::Status;
+use crate::watch::Watch;
 use sha2::{Digest, Sha256};
 use spd_edge::{Place, Sink};
 use spd_model::{Options, Why, Word};
 use spd_reader::read_model;
+use spd_tasks::Gate;
 use spd_text::write_result;
 use std::alloc::Global;
+use std::thread::Threads;
 
 /// The digest by which a result names its model's file.
 fn digest_of(bytes: &[u8]) -> [u8; 32]
@@ -49,9 +52,12 @@ fn ended(outcome: Result<Status, Status>) -> Status
     }
 }
 
-/// Solves the model in the file of this name, and writes the text of its result. Both ways to solve it come to the same.
-fn solve<P: Place, K: Sink>(
+/// Solves the model in the file of this name in this way, and writes the text of its result.
+fn solve<R: Threads + Sync, G: Gate + Watch, P: Place, K: Sink>(
+    rt: &R,
+    gate: &G,
     alloc: Global,
+    way: Way,
     file: &[u8],
     options: &Options,
     place: &mut P,
@@ -60,7 +66,7 @@ fn solve<P: Place, K: Sink>(
     requires fresh { (name : List ℕ) → (P.inputs place.old).stage name ≡ None }
     requires options { AreOptions options.now }
 
-    ensures answers { (way : Way) → Answers (solving way file.now options.now) (ending result)
+    ensures answers { Answers (solving way file.now options.now) (ending result)
         (seen P.inputs K.taken K.faults place.old out.old) (seen P.inputs K.taken K.faults place.new out.new) }
 
     // Whatever the status is.
@@ -74,27 +80,33 @@ fn solve<P: Place, K: Sink>(
     let bytes = read_file(alloc, place, file, FILE_LIMIT)?;
     let digest = digest_of(&bytes);
     let model = read_model(alloc, &bytes)?;
-    let solution = solve_model(alloc, &model, options)?;
+    let solution = solve_model(rt, gate, alloc, way, &model, options)?;
     write_result(out, &model, &digest, &solution.iterate, solution.why)?;
     Ok(finished(&solution))
 }
 
 /// Runs the command that the words give on the files of a place, writes its text to an output, and says how it ended.
 ///
-/// The commands are `solve` and `plain`, each with the name of a file, where `-` stands for standard input, and with options; the words
-/// are those of `spd_words`. A file is opened once, read to its end and closed; nothing is written before the whole result is known. What
-/// the clauses say, of every place, output and list of words:
+/// The commands are `solve`, which goes over decision diagrams, and `plain`, which goes over tables, each with the name of a file, where `-`
+/// stands for standard input, and with options; the words are those of `spd_words`. Turns on diagrams are made by as many threads of `rt` as
+/// the options say, and the gate is told of each turn and of each action's backup: neither has a part in the result. A file is opened once,
+/// read to its end and closed; nothing is written before the whole result is known. What the clauses say, of every place, output and list
+/// of words:
 ///
 /// - `headline`: a command that ends with a whole text (`Done`, `TurnLimit`) wrote exactly the text that the definitions give of its file
 ///   and options, which is that of a valid process, and nothing else; and the value and policy in it are optimal up to the residual over
 ///   one minus the discount, for every state, course of action and number of steps. Where a turn up to the turn limit is enough, as the
 ///   definitions tell after turn 0, it ends with `Done`.
-/// - `means`: what each kind of end says: where a text was written, whole or in part, and where the file is refused, the file was opened
-///   and closed again, and no read of it failed; a text that was cut off is a front of that text, and the output's count of faults rose;
-///   what is refused has its cause in the file, at the first fault; a file that couldn't be opened or read has its count of faults risen,
-///   and wasn't opened, or was; and with none of the last two anything was written.
-/// - `complete`: a lawful file of a valid process of at most 4,096 states is solved, unless the outside fails or memory runs out.
-/// - `refused`: a file that is refused ends the command with that refusal, unless the outside fails or memory runs out.
+/// - `means`: what each kind of end says: where a text was written, whole or in part, and where the file is refused or passes the node
+///   limit, the file was opened and closed again, and no read of it failed; a text that was cut off is a front of that text, and the
+///   output's count of faults rose; what is refused has its cause in the file, at the first fault; where the node limit is told
+///   (`NodeLimit`, by `solve` alone), the named stage of the file's process has more nodes than the options allow, and a turn that is named
+///   is one to which the run comes; a file that couldn't be opened or read has its count of faults risen, and wasn't opened, or was; and
+///   with none of the last three anything was written.
+/// - `complete`: a lawful file of a valid process is solved, unless the outside fails or memory runs out: by `solve` where neither building
+///   nor a turn that the run comes to has more nodes than the options allow, and by `plain` where it has at most 4,096 states.
+/// - `refused`: a file that is refused ends the command with that refusal, unless the outside fails, memory runs out, or building has more
+///   nodes than the options allow, which may be told instead.
 /// - `usage`, `idle`: `Usage` comes exactly where the words can't be run, with the first word that can't stand; then nothing is touched.
 /// - `asked`, `closed`, `never_falls`, `holds`, `outputs`, `named`: the place is asked for no file but the command's, what was opened is
 ///   closed, no count falls, and all else stays.
@@ -102,7 +114,9 @@ fn solve<P: Place, K: Sink>(
 /// Want of memory alone (`Memory`) has no cause in a clause. The file's bytes are those that the place holds, where it tells them. Where it
 /// doesn't, as the system's files don't, the clauses speak of some bytes: what was written is then still the whole right text of a model
 /// file, and a refusal one that a file has.
-pub fn solve_run<P: Place, K: Sink>(
+pub fn solve_run<R: Threads + Sync, G: Gate + Watch, P: Place, K: Sink>(
+    rt: &R,
+    gate: &G,
     alloc: Global,
     words: &[Word],
     place: &mut P,
@@ -129,7 +143,9 @@ pub fn solve_run<P: Place, K: Sink>(
     ensures named { K.name out.new ≡ K.name out.old }
 {
     match read_job(words) {
-        Ok(Job { file, options }) => ended(solve(alloc, file, &options, place, out)),
+        Ok(Job { way, file, options }) => {
+            ended(solve(rt, gate, alloc, way, file, &options, place, out))
+        }
         Err(word) => Status::Usage { word },
     }
 }

@@ -10,6 +10,15 @@ use spd_model::Text;
 use spd_syntax::{Refusal, Unread};
 use std::alloc::AllocError;
 
+/// What of solving on decision diagrams has a node limit.
+#[derive(Clone, Copy, PartialEq, Eq, Debug)]
+pub enum Stage {
+    /// Building the model's diagrams.
+    Building,
+    /// The turn of this number.
+    Turn(u32),
+}
+
 /// How a command ended.
 #[derive(Debug, Drop)]
 pub enum Status {
@@ -35,8 +44,8 @@ pub enum Status {
     Refused {
         refusal: Refusal,
     },
-    /// The process has more states than tables may have: `product` is the first product of the leading variables' numbers of values that
-    /// passes 4,096.
+    /// The process, which was to be solved over tables, has more states than they may have: `product` is the first product of the leading
+    /// variables' numbers of values that passes 4,096.
     TooManyStates {
         product: u32,
     },
@@ -56,6 +65,11 @@ pub enum Status {
     /// The result was written, and no turn up to the turn limit meets the stop rule. The residual is in units of 10^-9.
     TurnLimit {
         residual: i128,
+    },
+    /// This stage has more than `limit` nodes, as many as the options allow.
+    NodeLimit {
+        stage: Stage,
+        limit: u32,
     },
     /// The result couldn't be written whole.
     WriteFault,
@@ -113,6 +127,7 @@ impl From<Unsolved> for Status {
                 state,
                 value,
             },
+            Unsolved::NodeLimit { stage, limit } => Status::NodeLimit { stage, limit },
             Unsolved::Memory => Status::Memory,
         }
     }

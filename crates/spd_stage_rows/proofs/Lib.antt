@@ -1,4 +1,3 @@
 mod BuiltLaws
-mod CountLaws
 mod StageLaws
 mod ValueLaws

@@ -12,7 +12,8 @@ use Rattle.spd_backup.specs.declared.thawed.Thawed.{Thawed}
 use Rattle.spd_backup.specs.Expected.{BacksUp, AreBounds}
 use Rattle.spd_backup.specs.Thawing.{IsThawedOf, IsThawed, HasAction, HasNumbers}
 use Rattle.spd_stage_rows.specs.Values.{is_value}
-use Rattle.spd_stage_rows.proofs.ValueLaws.{has-values, has-numbers}
+use Rattle.spd_backup.proofs.CallerLemmas.{own-numbers}
+use Rattle.spd_stage_rows.proofs.ValueLaws.{has-values}
 
 -- the entry of a list at a place
 record HasEntry {X : Type 0} (xs : List X) (i : ℕ) : Type 0 where
@@ -35,7 +36,7 @@ module _ (m : Process) (s : Shown) (x : Thawed) (action : ℕ) (h : IsThawedOf m
   module _ (t : Shown) (w : Entry) (result : Result Bounds StoreFault) (fits : FitsEverywhere is_value s w)
       (made : (m : Process) (a : Action) (value : List ℕ → ℤ) → HasAction m a s x action → HasNumbers s w value → BacksUp m a value s t result) where
     backs-up : BacksUp m (entry-at m.actions action near).entry (λ z. number_of (meaning s w z z)) s t result
-    backs-up = made m (entry-at m.actions action near).entry (λ z. number_of (meaning s w z z)) offered (has-numbers s w (has-values s w fits))
+    backs-up = made m (entry-at m.actions action near).entry (λ z. number_of (meaning s w z z)) offered (own-numbers s w (has-values s w fits))
 
     pub backup-grows : Grows s t
     backup-grows = backs-up.grows

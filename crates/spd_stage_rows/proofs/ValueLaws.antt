@@ -8,8 +8,7 @@ use Rattle.spd_nodes.specs.declared.leaf.Leaf.{Leaf}
 use Rattle.spd_nodes.specs.declared.leaf.Leaf.TheVariants.{Num, Pair, Act}
 use Rattle.spd_nodes.specs.Shown.{Shown, meaning}
 use Rattle.spd_apply.specs.Outcome.{FitsEverywhere}
-use Rattle.spd_weigh.specs.Leaves.{IsValue, HasValues, number_of}
-use Rattle.spd_backup.specs.Thawing.{HasNumbers}
+use Rattle.spd_weigh.specs.Leaves.{IsValue, HasValues}
 use Rattle.spd_stage_rows.specs.Values.{is_value}
 
 at_most : (x : ℕ) → nat_le x 1000000000000000001000000 ≡ true → x ≤ 1000000000000000001000000
@@ -22,12 +21,3 @@ is-value (Act a) h = absurd (false≢true h)
 
 pub has-values : (s : Shown) (w : Entry) → FitsEverywhere is_value s w → HasValues s.sizes (meaning s w)
 has-values s w h = record { at = λ x y p q. is-value (meaning s w x y) (h.at x y p q) }
-
--- what is a value is a number
-a-number : (a : Leaf) → IsValue a → a ≡ Num (number_of a)
-a-number (Num x) h = λ i. Num x
-a-number (Pair x y) h = absurd h
-a-number (Act a) h = absurd h
-
-pub has-numbers : (s : Shown) (w : Entry) → HasValues s.sizes (meaning s w) → HasNumbers s w (λ x. number_of (meaning s w x x))
-has-numbers s w h = record { at = λ x p. a-number (meaning s w x x) (h.at x x p p) }

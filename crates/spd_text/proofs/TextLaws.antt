@@ -24,14 +24,11 @@ use Rattle.spd_frozen.specs.declared.iterate.Iterate.{Iterate}
 use Rattle.spd_frozen.specs.Nodes.{shown, all_shown}
 use Rattle.spd_frozen.specs.Fits.{IsValue, IsChoice, FitsModel}
 use Rattle.spd_frozen.specs.Told.{with_leaf, number_of, action_of, told}
-use Rattle.spd_text.specs.inner.Pieces.{text_of_pieces, spaced, leaf_text}
-use Rattle.spd_text.specs.inner.Parts.{head_text, end_words, top_text}
-
--- one piece more
-pub pieces-more : (pieces : List (Bor (List ℕ))) (i : ℕ) (d : Bor (List ℕ)) → i < length pieces → text_of_pieces (take i pieces) ++ (get_or pieces i d).now ≡ text_of_pieces (take (i + 1) pieces)
-pieces-more pieces i d h =
-    sym (ap text_of_pieces (take_more pieces i d h) ∙ flat_map-append (λ (p : Bor (List ℕ)). p.now) (take i pieces) (get_or pieces i d ∷ [])
-    ∙ ap (λ l. text_of_pieces (take i pieces) ++ l) (append-nil (get_or pieces i d).now))
+use Rattle.spd_edge.specs.Pieces.{text_of_pieces}
+use Rattle.spd_edge.proofs.CallerLemmas.{pieces-more}
+use Rattle.spd_text.specs.inner.Pieces.{spaced, leaf_text}
+use Rattle.spd_text.specs.inner.Parts.{title_text, head_text, end_words, end_text, top_text, counts_text}
+use Rattle.spd_text.specs.Summary.{summary_text}
 
 -- pieces before, one piece, and those behind it
 pub pieces-split : (pieces : List (Bor (List ℕ))) (i : ℕ) (d : Bor (List ℕ)) → i < length pieces
@@ -44,9 +41,6 @@ pieces-split pieces i d h =
 abbrev pub no_piece : Bor (List ℕ)
 no_piece = record { ref_ptr = (0, 0); now = [] }
 
-pub pieces-all : (pieces : List (Bor (List ℕ))) (i : ℕ) → length pieces ≤ i → text_of_pieces (take i pieces) ≡ text_of_pieces pieces
-pieces-all pieces i h = ap text_of_pieces (take_all i pieces h)
-
 -- words after the first
 pub words-spaced : (w : List ℕ) (ws : List (List ℕ)) → join_with_byte 32 (w ∷ ws) ≡ w ++ spaced ws
 words-spaced w [] = sym (append-nil w)
@@ -55,15 +49,25 @@ words-spaced w (v ∷ ws) = ap (λ (t : List ℕ). w ++ (32 ∷ t)) (words-space
 pub spaced-append : (xs ys : List (List ℕ)) → spaced (xs ++ ys) ≡ spaced xs ++ spaced ys
 spaced-append xs ys = flat_map-append (λ (word : List ℕ). 32 ∷ word) xs ys
 
-pub head-is : (digest why turn residual : List ℕ)
-    → (codes "spd result 2" ++ 10 ∷ codes "model ") ++ (digest ++ ((10 ∷ codes "status ") ++ (why ++ ((10 ∷ codes "turn ") ++ (turn ++ ((10 ∷ codes "residual ") ++ (residual ++ ((10 ∷ codes "at") ++ []))))))))
-    ≡ head_text digest why turn residual
-head-is digest why turn residual =
-    regroup-head (codes "spd result 2") (codes "model ") digest (codes "status ") why (codes "turn ") turn (codes "residual ") residual (codes "at") (10 ∷ [])
+pub title-is : (digest : List ℕ) → (codes "spd result 2" ++ 10 ∷ codes "model ") ++ (digest ++ ((10 ∷ []) ++ [])) ≡ title_text digest
+title-is digest = simp (append_assoc, append-nil)
+
+pub head-is : (why turn residual : List ℕ)
+    → codes "status " ++ (why ++ ((10 ∷ codes "turn ") ++ (turn ++ ((10 ∷ codes "residual ") ++ (residual ++ ((10 ∷ codes "at") ++ [])))))) ≡ head_text why turn residual
+head-is why turn residual = regroup-head (codes "status ") why (codes "turn ") turn (codes "residual ") residual (codes "at") (10 ∷ [])
   where
-    regroup-head : (a m d s w t k r u at n : List ℕ) → (a ++ (n ++ m)) ++ (d ++ ((n ++ s) ++ (w ++ ((n ++ t) ++ (k ++ ((n ++ r) ++ (u ++ (n ++ at))))))))
-        ≡ (((((a ++ n) ++ ((m ++ d) ++ n)) ++ ((s ++ w) ++ n)) ++ ((t ++ k) ++ n)) ++ ((r ++ u) ++ n)) ++ at
-    regroup-head a m d s w t k r u at n = simp append_assoc
+    regroup-head : (s w t k r u at n : List ℕ) → s ++ (w ++ ((n ++ t) ++ (k ++ ((n ++ r) ++ (u ++ (n ++ at)))))) ≡ ((((s ++ w) ++ n) ++ ((t ++ k) ++ n)) ++ ((r ++ u) ++ n)) ++ at
+    regroup-head s w t k r u at n = simp append_assoc
+
+-- the line of a ring, and the lines of the counts
+pub ring-is : (machines : List ℕ) → codes "spd ring " ++ (machines ++ ((10 ∷ []) ++ [])) ≡ line (codes "spd" ∷ codes "ring" ∷ machines ∷ [])
+ring-is machines = simp (append_assoc, append-nil)
+
+pub counts-is : (value policy : List ℕ) → codes "value " ++ (value ++ ((10 ∷ codes "policy ") ++ (policy ++ ((10 ∷ codes "end" ++ 10 ∷ []) ++ [])))) ≡ counts_text value policy
+counts-is value policy = regroup-counts (codes "value ") value (codes "policy ") policy (codes "end" ++ 10 ∷ []) (10 ∷ [])
+  where
+    regroup-counts : (v x p y e n : List ℕ) → v ++ (x ++ ((n ++ p) ++ (y ++ (n ++ e)))) ≡ (((v ++ x) ++ n) ++ ((p ++ y) ++ n)) ++ e
+    regroup-counts v x p y e n = simp append_assoc
 
 -- the side and the action of a residual, and the line of the error
 pub end-is : (side action error : List ℕ)
@@ -209,21 +213,51 @@ place-is words side action error =
     regroup-place : (at ws p s a n e : List ℕ) → (at ++ ws) ++ ((((p ++ s) ++ ((p ++ a) ++ [])) ++ n) ++ e) ≡ ((at ++ (ws ++ ((p ++ s) ++ ((p ++ a) ++ [])))) ++ n) ++ e
     regroup-place at ws p s a n e = simp (append_assoc, append-nil)
 
-regroup : (a b c d e at state end value policy last place error : List ℕ) → (at ++ state) ++ end ≡ place ++ error
-    → ((((((a ++ b ++ c ++ d ++ e ++ at) ++ state) ++ end) ++ value) ++ policy) ++ last) ≡ a ++ b ++ c ++ d ++ e ++ place ++ error ++ value ++ policy ++ last
-regroup a b c d e at state end value policy last place error h =
-    let inner : at ++ (state ++ end) ≡ place ++ error = sym (append_assoc at state end) ∙ h in
-    simp append_assoc (ap (λ (t : List ℕ). a ++ (b ++ (c ++ (d ++ (e ++ t))))) (sym (append_assoc at state (end ++ (value ++ (policy ++ last))))
-    ∙ sym (append_assoc (at ++ state) end (value ++ (policy ++ last))) ∙ ap (λ (t : List ℕ). t ++ (value ++ (policy ++ last))) h ∙ append_assoc place error (value ++ (policy ++ last))))
+-- the lines of a turn, with the whole line of its place
+pub top-is : (m : Process) (why : Why) (x : Iterate)
+    → top_text m why x ≡ (((line (codes "status" ∷ why_text why ∷ []) ++ line (codes "turn" ∷ decimal x.turn ∷ [])) ++ line (codes "residual" ∷ units x.residual.r ∷ []))
+    ++ place_line m (told x).place) ++ line (codes "error" ∷ units x.error ∷ [])
+top-is m why x =
+    regroup-top ((line (codes "status" ∷ why_text why ∷ []) ++ line (codes "turn" ∷ decimal x.turn ∷ [])) ++ line (codes "residual" ∷ units x.residual.r ∷ []))
+    (codes "at") (spaced (state_words m x.residual.at)) (end_text m x.residual x.error) (place_line m (told x).place) (line (codes "error" ∷ units x.error ∷ []))
+    (place-is (state_words m x.residual.at) (side_text x.residual.side) (action_name m x.residual.action) (line (codes "error" ∷ units x.error ∷ [])))
+  where
+    regroup-top : (head at state end place error : List ℕ) → (at ++ state) ++ end ≡ place ++ error → ((head ++ at) ++ state) ++ end ≡ (head ++ place) ++ error
+    regroup-top head at state end place error h =
+        ap (λ (t : List ℕ). t ++ end) (append_assoc head at state) ∙ append_assoc head (at ++ state) end ∙ ap (λ (t : List ℕ). head ++ t) h ∙ sym (append_assoc head place error)
 
 pub whole-is : (digest : List ℕ) (m : Process) (why : Why) (x : Iterate) → FitsModel m x
-    → ((top_text digest m why x ++ nodes_text (leaf_text m) (var_name m) (codes "value") x.value) ++ nodes_text (leaf_text m) (var_name m) (codes "policy") x.policy) ++ line (codes "end" ∷ [])
+    → (((title_text (encode_lower digest) ++ top_text m why x) ++ nodes_text (leaf_text m) (var_name m) (codes "value") x.value)
+    ++ nodes_text (leaf_text m) (var_name m) (codes "policy") x.policy) ++ line (codes "end" ∷ [])
     ≡ text_of digest m why (told x)
 whole-is digest m why x fits =
+    let title = title_text (encode_lower digest) in
     let value = nodes_text-changed number_of (leaf_text m) units (var_name m) IsValue (value-leaf m) (codes "value") x.value fits.values in
     let policy = nodes_text-changed action_of (leaf_text m) (action_name m) (var_name m) (IsChoice (length m.actions)) (choice-leaf m (length m.actions)) (codes "policy") x.policy fits.choices in
-    let place = place-is (state_words m x.residual.at) (side_text x.residual.side) (action_name m x.residual.action) (line (codes "error" ∷ units x.error ∷ [])) in
-    ap (λ (t : List ℕ). ((top_text digest m why x ++ t) ++ nodes_text (leaf_text m) (var_name m) (codes "policy") x.policy) ++ line (codes "end" ∷ [])) value
-    ∙ ap (λ (t : List ℕ). ((top_text digest m why x ++ nodes_text units (var_name m) (codes "value") (map (with_leaf number_of) x.value)) ++ t) ++ line (codes "end" ∷ [])) policy
+    ap (λ (t : List ℕ). (((title ++ t) ++ nodes_text (leaf_text m) (var_name m) (codes "value") x.value) ++ nodes_text (leaf_text m) (var_name m) (codes "policy") x.policy) ++ line (codes "end" ∷ [])) (top-is m why x)
     ∙ regroup (line (codes "spd result 2" ∷ [])) (line (codes "model" ∷ encode_lower digest ∷ [])) (line (codes "status" ∷ why_text why ∷ [])) (line (codes "turn" ∷ decimal x.turn ∷ []))
-    (line (codes "residual" ∷ units x.residual.r ∷ [])) (codes "at") (spaced (state_words m x.residual.at)) _ _ _ (line (codes "end" ∷ [])) (place_line m (told x).place) (line (codes "error" ∷ units x.error ∷ [])) place
+    (line (codes "residual" ∷ units x.residual.r ∷ [])) (place_line m (told x).place) (line (codes "error" ∷ units x.error ∷ [])) _ _ _ _ (line (codes "end" ∷ [])) value policy
+  where
+    regroup : (a b c d e place error v v' p p' last : List ℕ) → v ≡ v' → p ≡ p'
+        → ((((a ++ b) ++ ((((c ++ d) ++ e) ++ place) ++ error)) ++ v) ++ p) ++ last ≡ ((((((((a ++ b) ++ c) ++ d) ++ e) ++ place) ++ error) ++ v') ++ p') ++ last
+    regroup a b c d e place error v v' p p' last f g =
+        (λ i. ((((a ++ b) ++ ((((c ++ d) ++ e) ++ place) ++ error)) ++ f i) ++ g i) ++ last) ∙ same v' p'
+      where
+        same : (v p : List ℕ) → ((((a ++ b) ++ ((((c ++ d) ++ e) ++ place) ++ error)) ++ v) ++ p) ++ last ≡ ((((((((a ++ b) ++ c) ++ d) ++ e) ++ place) ++ error) ++ v) ++ p) ++ last
+        same v p = simp append_assoc
+
+-- the whole summary
+pub summary-is : (machines : ℕ) (m : Process) (why : Why) (x : Iterate)
+    → (line (codes "spd" ∷ codes "ring" ∷ decimal machines ∷ []) ++ top_text m why x) ++ counts_text (decimal (length x.value)) (decimal (length x.policy)) ≡ summary_text machines m why (told x)
+summary-is machines m why x =
+    let ring = line (codes "spd" ∷ codes "ring" ∷ decimal machines ∷ []) in
+    let value : length x.value ≡ length (told x).value = sym (length-map x.value (with_leaf number_of)) in
+    let policy : length x.policy ≡ length (told x).policy = sym (length-map x.policy (with_leaf action_of)) in
+    ap (λ (t : List ℕ). (ring ++ t) ++ counts_text (decimal (length x.value)) (decimal (length x.policy))) (top-is m why x)
+    ∙ (λ i. (ring ++ ((((line (codes "status" ∷ why_text why ∷ []) ++ line (codes "turn" ∷ decimal x.turn ∷ [])) ++ line (codes "residual" ∷ units x.residual.r ∷ []))
+    ++ place_line m (told x).place) ++ line (codes "error" ∷ units x.error ∷ []))) ++ counts_text (decimal (value i)) (decimal (policy i)))
+    ∙ regroup ring (line (codes "status" ∷ why_text why ∷ [])) (line (codes "turn" ∷ decimal x.turn ∷ [])) (line (codes "residual" ∷ units x.residual.r ∷ [])) (place_line m (told x).place)
+    (line (codes "error" ∷ units x.error ∷ [])) (line (codes "value" ∷ decimal (length (told x).value) ∷ [])) (line (codes "policy" ∷ decimal (length (told x).policy) ∷ [])) (line (codes "end" ∷ []))
+  where
+    regroup : (a c d e place error v p last : List ℕ) → (a ++ ((((c ++ d) ++ e) ++ place) ++ error)) ++ ((v ++ p) ++ last) ≡ (((((((a ++ c) ++ d) ++ e) ++ place) ++ error) ++ v) ++ p) ++ last
+    regroup a c d e place error v p last = simp append_assoc

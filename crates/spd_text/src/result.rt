@@ -6,7 +6,7 @@ ghost use Rattle.spd_frozen.specs.Fits.{FitsModel};
 ghost use Rattle.spd_frozen.specs.Told.{told};
 ghost use Rattle.spd_text.specs.Writing.{Wrote, Counted};
 ghost use Rattle.spd_text.specs.inner.Pieces.{shown, spaced, Writes};
-ghost use Rattle.spd_text.specs.inner.Parts.{head_text, end_words, end_text, top_text};
+ghost use Rattle.spd_text.specs.inner.Parts.{title_text, head_text, end_words, end_text, top_text};
 
 use crate::names::{action_name, side_word, value_name, why_word};
 use crate::nodes::put_nodes;
@@ -53,27 +53,35 @@ fn put_result<K: Sink>(
     requires { FitsModel model.now iterate.now }
     ensures { Writes (shown K.taken K.faults K.name k.old) waiting.old (text_of digest.now model.now why (told iterate.now)) result (shown K.taken K.faults K.name k.new) waiting.new }
 {
-    put_top(k, waiting, model, digest, iterate, why)?;
+    put_title(k, waiting, digest)?;
+    put_top(k, waiting, model, iterate, why)?;
     put_nodes(k, waiting, model, b"value", &iterate.value)?;
     put_nodes(k, waiting, model, b"policy", &iterate.policy)?;
     put(k, waiting, b"end\n")
 }
 
-/// Writes the lines before the nodes.
-fn put_top<K: Sink>(
+/// Writes the lines that say what the text is, and of which file.
+fn put_title<K: Sink>(k: &mut K, waiting: &mut Waiting, digest: &[u8; 32]) -> Result<(), Failed>
+    ensures { Writes (shown K.taken K.faults K.name k.old) waiting.old (title_text (encode_lower digest.now)) result (shown K.taken K.faults K.name k.new) waiting.new }
+{
+    let digest = hexadecimal(digest);
+    put_all(k, waiting, &[b"spd result 2\nmodel ", &digest, b"\n"])
+}
+
+/// Writes the lines of a turn: from its status to its error.
+pub(crate) fn put_top<K: Sink>(
     k: &mut K,
     waiting: &mut Waiting,
     model: &Model,
-    digest: &[u8; 32],
     iterate: &Iterate,
     why: Why,
 ) -> Result<(), Failed>
     requires { length iterate.now.residual.at ≡ length model.now.vars }
     ensures { Writes (shown K.taken K.faults K.name k.old) waiting.old
-        (top_text digest.now model.now why iterate.now)
+        (top_text model.now why iterate.now)
         result (shown K.taken K.faults K.name k.new) waiting.new }
 {
-    put_head(k, waiting, digest, iterate, why)?;
+    put_head(k, waiting, iterate, why)?;
     put_state(k, waiting, model, &iterate.residual.at)?;
     put_end(k, waiting, model, &iterate.residual, iterate.error)
 }
@@ -82,22 +90,18 @@ fn put_top<K: Sink>(
 fn put_head<K: Sink>(
     k: &mut K,
     waiting: &mut Waiting,
-    digest: &[u8; 32],
     iterate: &Iterate,
     why: Why,
 ) -> Result<(), Failed>
     ensures { Writes (shown K.taken K.faults K.name k.old) waiting.old
-        (head_text (encode_lower digest.now) (why_text why) (decimal iterate.now.turn) (units iterate.now.residual.r))
+        (head_text (why_text why) (decimal iterate.now.turn) (units iterate.now.residual.r))
         result (shown K.taken K.faults K.name k.new) waiting.new }
 {
-    let digest = hexadecimal(digest);
     let mut digits = Buffer::new();
     let mut residual = [0; 64];
     let len = put_units(iterate.residual.r, 9, &mut residual);
-    let pieces: [&[u8]; 9] = [
-        b"spd result 2\nmodel ",
-        &digest,
-        b"\nstatus ",
+    let pieces: [&[u8]; 7] = [
+        b"status ",
         why_word(why),
         b"\nturn ",
         digits.format(iterate.turn).as_bytes(),

@@ -1,6 +1,7 @@
 //! Bytes that wait to be written, so that not each word of a text is a write of its own.
 ghost use Rattle.std.specs.Prelude.{◌≡◌, ◌+◌, ◌≤◌, [], ◌++◌, length};
-ghost use Rattle.spd_text.specs.inner.Pieces.{shown, text_of_pieces, Writes};
+ghost use Rattle.spd_edge.specs.Pieces.{text_of_pieces};
+ghost use Rattle.spd_text.specs.inner.Pieces.{shown, Writes};
 
 use spd_edge::{Failed, Sink, write_all_of};
 use std::marker::Model;

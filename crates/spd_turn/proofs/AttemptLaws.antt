@@ -21,9 +21,10 @@ use Rattle.spd_turn.specs.Attempts.{HoldsTurn, IsTooSmall, KnowsTurn, nodes_of_t
 use Rattle.spd_turn.specs.Parts.{ArePartsOf, MakesParts, carried_functions}
 use Rattle.spd_turn.specs.Turn.{CanFinish, count_nodes, finish_functions, greatest_low, turn_functions, value_of_turn}
 use Rattle.spd_turn.specs.Waves.{AreBackedUp, all_backups}
-use Rattle.spd_turn.proofs.BackupLaws.{backed-grow, count-actions}
+use Rattle.spd_turn.proofs.BackupLaws.{count-actions}
 use Rattle.spd_turn.proofs.CountLaws.{more-nodes}
 use Rattle.spd_turn.proofs.TurnLaws.{among-backups, among-finish, backed-bounds}
+use Rattle.spd_turn.proofs.WaveLaws.{backed-grow}
 
 pub on-ok : {X E : Type 0} {A B : Type 0} (r : Result X E) → (A → B) → OnOk r A → OnOk r B
 on-ok (Ok x) f h = f h

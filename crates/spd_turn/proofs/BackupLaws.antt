@@ -1,5 +1,5 @@
 -- The backups of actions, one after another.
-use Rattle.std.proofs.Common.{◌≡◌, ℕ, zero, suc, ◌+◌, ◌<◌, ◌≤◌, List, [], ◌∷◌, ◌++◌, map, length, take, refl, sym, ◌∙◌, ap, subst, arith, ℤ, Some, Result, Ok, Err, Vec, Global}
+use Rattle.std.proofs.Common.{◌≡◌, ℕ, ◌+◌, ◌<◌, ◌≤◌, List, [], ◌∷◌, ◌++◌, map, length, take, sym, ◌∙◌, ap, subst, arith, ℤ, Some, Result, Ok, Err, Vec, Global}
 use Rattle.std.specs.Prelude.{slice_get}
 use Rattle.std.proofs.lemmas.List.{length-map, take_all, take_more}
 use Rattle.std.proofs.lemmas.Option.{get_or_from_slice_get}
@@ -9,52 +9,20 @@ use Rattle.spd_model.specs.Process.{Process}
 use Rattle.spd_nodes.specs.declared.forest.StoreFault.{StoreFault}
 use Rattle.spd_nodes.specs.declared.forest.StoreFault.TheVariants as F
 use Rattle.spd_nodes.specs.Made.{HasMade}
-use Rattle.spd_nodes.specs.Shown.{Shown, IsSound, Grows}
-use Rattle.spd_nodes.proofs.CallerLemmas.{Among, all-out, among-flat, fault-wider, has-none, has-then, stand-length, stands-grows}
-use Rattle.spd_weigh.specs.declared.way.Way.{Way}
+use Rattle.spd_nodes.specs.Shown.{Shown, IsSound}
+use Rattle.spd_nodes.proofs.CallerLemmas.{Among, all-out, among-flat, fault-wider, has-none, has-then, stand-length}
 use Rattle.spd_build.specs.Functions.{reward}
 use Rattle.spd_backup.specs.declared.backing.Bounds.{Bounds}
 use Rattle.spd_backup.specs.declared.thawed.Thawed.{Thawed}
-use Rattle.spd_backup.specs.Expected.{backup_functions, AreBounds, AreExpected, BacksUp}
+use Rattle.spd_backup.specs.Expected.{backup_functions, BacksUp}
 use Rattle.spd_backup.specs.Thawing.{IsThawed, HasAction}
 use Rattle.spd_turn.specs.Jobs.{CanBackUp}
 use Rattle.spd_turn.specs.Waves.{all_backups, AreBackedUp}
 use Rattle.spd_turn.specs.Backups.{BacksUpAll, HaveBackedUp}
 use Rattle.spd_turn.proofs.SplitLaws.{can-keeps, grows-keeps}
-
--- ---- a forest that grew
-
-expected-grows : (way : Way) (m : Process) (a : Action) (value : List ℕ → ℤ) (s t : Shown) (n : ℕ) → Grows s t → AreExpected way m a value s n → AreExpected way m a value t n
-expected-grows way m a value s t n g h = record { each = λ i b. record { ref = (h.each i b).ref; stands = stands-grows g (h.each i b).stands } }
-
-bounds-grow : (m : Process) (a : Action) (value : List ℕ → ℤ) (s t : Shown) (b : Bounds) → Grows s t → AreBounds m a value s b → AreBounds m a value t b
-bounds-grow m a value s t b g h = record {
-  low = stands-grows g h.low;
-  high = stands-grows g h.high;
-  low_expected = expected-grows _ m a value s t (length m.vars) g h.low_expected;
-  high_expected = expected-grows _ m a value s t (length m.vars) g h.high_expected;
-}
-
--- a forest that grew knows them too
-pub backed-grow : (m : Process) (value : List ℕ → ℤ) (s t : Shown) (bs : List Bounds) (actions : List Action) → Grows s t → AreBackedUp m value s bs actions → AreBackedUp m value t bs actions
-backed-grow m value s t [] [] g h = tt
-backed-grow m value s t [] (c ∷ actions) g h = absurd h
-backed-grow m value s t (d ∷ bs) [] g h = absurd h
-backed-grow m value s t (d ∷ bs) (c ∷ actions) g h = (bounds-grow m c value s t d g h.0, backed-grow m value s t bs actions g h.1)
-
-backed-push : (m : Process) (value : List ℕ → ℤ) (s t : Shown) (bs : List Bounds) (actions : List Action) (b : Bounds) (a : Action) → Grows s t → AreBackedUp m value s bs actions → AreBounds m a value t b
-    → AreBackedUp m value t (bs ++ b ∷ []) (actions ++ a ∷ [])
-backed-push m value s t [] [] b a g h k = (k, tt)
-backed-push m value s t [] (c ∷ actions) b a g h k = absurd h
-backed-push m value s t (d ∷ bs) [] b a g h k = absurd h
-backed-push m value s t (d ∷ bs) (c ∷ actions) b a g h k = (bounds-grow m c value s t d g h.0, backed-push m value s t bs actions b a g h.1 k)
+use Rattle.spd_turn.proofs.WaveLaws.{backed-grow, backed-push, some-action}
 
 -- ---- one action after another
-
-offered-at : (actions : List Action) (i : ℕ) → i < length actions → (a : Action) × (slice_get actions i ≡ Some a)
-offered-at [] i b = absurd (omega arith)
-offered-at (a ∷ actions) zero b = (a, refl)
-offered-at (a ∷ actions) (suc i) b = offered-at actions i (omega arith)
 
 module _ (m : Process) (value : List ℕ → ℤ) (s : Shown) (x : Thawed) (w : Entry) (can : CanBackUp m value s x w) where
   pub count-actions : length x.rewards.items ≡ length m.actions
@@ -66,7 +34,7 @@ module _ (m : Process) (value : List ℕ → ℤ) (s : Shown) (x : Thawed) (w : 
 
     module _ (near : i < length x.rewards.items) where
       pub chosen : (a : Action) × (slice_get m.actions i ≡ Some a)
-      chosen = offered-at m.actions i (omega (arith, near, count-actions))
+      chosen = some-action m.actions i (omega (arith, near, count-actions))
 
       pub has-action : HasAction m chosen.0 t x i
       has-action = record { thawed = can-then.thawed; offered = chosen.1 }
@@ -97,7 +65,7 @@ module _ (m : Process) (value : List ℕ → ℤ) (s : Shown) (x : Thawed) (w : 
           take_more m.actions i chosen.0 (omega (arith, near, count-actions)) ∙ ap (λ a. take i m.actions ++ a ∷ []) (get_or_from_slice_get m.actions i chosen.0 chosen.0 chosen.1) in
           record {
             made = made-then v (Ok b) n;
-            bounds = subst (AreBackedUp m value v (bs ++ b ∷ [])) (sym more) (backed-push m value t v bs (take i m.actions) b chosen.0 n.grows h.bounds n.ok);
+            bounds = subst (AreBackedUp m value v (bs ++ b ∷ [])) (sym more) (backed-push m value v bs (take i m.actions) b chosen.0 (backed-grow m value t v bs (take i m.actions) n.grows h.bounds) n.ok);
           }
 
     pub all-backed : length x.rewards.items ≤ i → (v : Vec Bounds Global) → v.items ≡ bs → BacksUpAll m value s t (Ok v)

@@ -1,25 +1,22 @@
 -- What the bounds of all actions of a valid process are, where a value within limits follows.
-use Rattle.std.proofs.Common.{◌≡◌, ℕ, suc, ◌<◌, Bool, true, false, if◌then◌else◌, List, [], ◌∷◌, map, length, refl, sym, ap, subst, arith, ℤ, ◌≤ℤ◌, int_le, All, Contains}
+use Rattle.std.proofs.Common.{◌≡◌, ℕ, suc, ◌<◌, Bool, true, false, if◌then◌else◌, List, [], ◌∷◌, map, length, refl, ap, subst, arith, ℤ, ◌≤ℤ◌, All, Contains}
 use Rattle.std.specs.List.{AllZip}
 use Rattle.std.specs.Ordering.{int_eq}
-use Rattle.std.proofs.lemmas.Int.{ints}
 use Rattle.std.proofs.lemmas.List.{length-map}
 use Rattle.std.proofs.lemmas.List.Elements.{All-nil, All-cons, All-head, All-tail, All-contains_itself}
 use Rattle.std.proofs.lemmas.Option.{slice_get_within}
-use Rattle.spd_cons_core.specs.declared.key.Entry.{Entry}
 use Rattle.spd_model.specs.declared.process.Action.{Action}
 use Rattle.spd_model.specs.declared.Side.TheVariants.{Above, Below}
 use Rattle.spd_model.specs.Process.{Process}
-use Rattle.spd_model.specs.Backup.{low_of, high_of, best_high, policy_of, highest_of}
+use Rattle.spd_model.specs.Backup.{high_of, best_high, policy_of, highest_of}
 use Rattle.spd_model.specs.Turns.{Place, place_of, gap_above, state_of_residual}
 use Rattle.spd_model.proofs.CallerLemmas.Gaps.{policy_near}
 use Rattle.spd_model.proofs.CallerLemmas.Greatest.{first_place_reads, greatest_reached}
 use Rattle.spd_nodes.specs.Shown.{Shown, StandsFor}
 use Rattle.spd_weigh.specs.declared.way.Way.TheVariants.{Down, Up}
-use Rattle.spd_build.specs.Functions.{numbers}
 use Rattle.spd_backup.specs.declared.backing.Bounds.{Bounds}
 use Rattle.spd_backup.specs.Expected.{bound}
-use Rattle.spd_policy.specs.Best.{IsNum, IsNumeric, AreNumeric, lows_of, highs_of, AreBoundsOf}
+use Rattle.spd_policy.specs.Best.{lows_of, highs_of, AreBoundsOf}
 
 -- ---- what holds of the bounds of each action
 
@@ -44,14 +41,6 @@ count-of s m w (a ∷ cs) (b ∷ bs) l = ap suc (count-of s m w cs bs l.1)
 pub bounds-count : (m : Process) (w : List ℕ → ℤ) (s : Shown) (bs : List Bounds) → AreBoundsOf m w s bs → length bs ≡ length m.actions
 bounds-count m w s bs h = count-of s m w m.actions bs h.low
 
--- they are numbers
-numeric-of : (s : Shown) (r : Entry) (f : List ℕ → List ℕ → ℤ) → StandsFor s r (numbers f) → IsNumeric s r
-numeric-of s r f h = record { known = h.knows; whole = h.whole; numbers = λ x y p q. subst IsNum (sym (h.value.at x y p q)) tt }
-
-pub bounds-numeric : (m : Process) (w : List ℕ → ℤ) (s : Shown) (bs : List Bounds) → AreBoundsOf m w s bs → All (AreNumeric s) bs
-bounds-numeric m w s =
-    each-bounds m w s (AreNumeric s) (λ b a offered l u. record { lower = numeric-of s b.lo (λ x t. low_of m w a x) l; upper = numeric-of s b.hi (λ x t. high_of m w a x) u })
-
 -- ---- the action at the residual's place
 
 choice-near : (b : Bool) (p q : Place) (n : ℕ) → p.action < n → q.action < n → (if b then p else q).action < n
@@ -69,6 +58,3 @@ place-near m w some r =
     let s = state_of_residual m w r in
     choice-near (int_eq r (gap_above m w s)) (record { state = s; side = Above; action = highest_of m w s }) (record { state = s; side = Below; action = policy_of m w s })
     (length m.actions) (highest-near m w some s) (policy_near m w some s)
-
-pub le-holds : (x y : ℤ) → x ≤ℤ y → int_le x y ≡ true
-le-holds x y h = grind (arith, ints)

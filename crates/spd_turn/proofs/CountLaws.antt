@@ -2,9 +2,10 @@
 use Rattle.std.proofs.Common.{◌≡◌, ℕ, zero, suc, ◌+◌, ◌<◌, ◌≤◌, ◌==◌, ◌||◌, Bool, true, false, cond, List, [], ◌∷◌, map, flat_map, length, get_or, refl, sym, ◌∙◌, ap, subst, arith, inl, inr, Contains}
 use Rattle.std.specs.List.{list_any, count_by, IsDistinct}
 use Rattle.std.specs.Set.{is_member, unique_keys}
-use Rattle.std.proofs.lemmas.Bool.{true≢false}
+use Rattle.std.proofs.lemmas.Bool.{true≢false, or_left, or_right}
 use Rattle.std.proofs.lemmas.Bool.Decides.{nat_tests}
 use Rattle.std.proofs.lemmas.List.{length-map, get_or-map}
+use Rattle.std.proofs.lemmas.List.Folds.{list_any_at}
 use Rattle.std.proofs.lemmas.List.Sums.{sum_by-cons}
 use Rattle.std.proofs.lemmas.List.Elements.{Contains-append_left, Contains-append_right}
 use Rattle.std.proofs.lemmas.Map.Keys.{IsDistinct-from_apart}
@@ -42,25 +43,12 @@ module _ {X : Type 0} (q : X → Bool) where
   count-two (x ∷ xs) (suc i) zero d a b h k = absurd (omega arith)
   count-two (x ∷ xs) (suc i) (suc j) d a b h k = let rest = count-two xs i j d (omega arith) (omega arith) h k in let more = count-cons x xs in omega (arith, rest, more)
 
-or-left : (a b : Bool) → a ≡ true → (a || b) ≡ true
-or-left true b e = refl
-or-left false b e = absurd (true≢false (sym e))
-
-or-right : (a b : Bool) → b ≡ true → (a || b) ≡ true
-or-right true b e = refl
-or-right false b e = e
-
-any-at : {X : Type 0} (q : X → Bool) (xs : List X) (k : ℕ) (d : X) → k < length xs → q (get_or xs k d) ≡ true → list_any q xs ≡ true
-any-at q [] k d b h = absurd (omega arith)
-any-at q (x ∷ xs) zero d b h = rw h refl
-any-at q (x ∷ xs) (suc k) d b h = or-right (q x) (list_any q xs) (any-at q xs k d (omega arith) h)
-
 apart : (t u : Tree) (b : Bool) → tree_eq t u ≡ b → (t ≡ u → ⊥) → tree_eq t u ≡ false
 apart t u false e h = e
 apart t u true e h = absurd (h (tree_eq-true t u e))
 
 -- each tree of a list is among those that are counted
-unique-there : (ts : List Tree) (x : Tree) → is_member tree_eq ts x ≡ true → is_member tree_eq (unique_keys tree_eq ts) x ≡ true
+pub unique-there : (ts : List Tree) (x : Tree) → is_member tree_eq ts x ≡ true → is_member tree_eq (unique_keys tree_eq ts) x ≡ true
 unique-there [] x h = absurd (true≢false (sym h))
 unique-there (t ∷ ts) x h = go (unique-there ts x) (is_member tree_eq ts t) (tree_eq x t) refl refl
   where
@@ -70,11 +58,11 @@ unique-there (t ∷ ts) x h = go (unique-there ts x) (is_member tree_eq ts t) (t
     go : (is_member tree_eq ts x ≡ true → is_member tree_eq (unique_keys tree_eq ts) x ≡ true) → (b c : Bool) → is_member tree_eq ts t ≡ b → tree_eq x t ≡ c → is_member tree_eq (cond b (unique_keys tree_eq ts) (t ∷ unique_keys tree_eq ts)) x ≡ true
     go more true true e f = more (subst (λ (z : Tree). is_member tree_eq ts z ≡ true) (sym (tree_eq-true x t f)) e)
     go more true false e f = more (later f)
-    go more false true e f = or-left (tree_eq x t) (is_member tree_eq (unique_keys tree_eq ts) x) f
-    go more false false e f = or-right (tree_eq x t) (is_member tree_eq (unique_keys tree_eq ts) x) (more (later f))
+    go more false true e f = or_left (tree_eq x t) (is_member tree_eq (unique_keys tree_eq ts) x) f
+    go more false false e f = or_right (tree_eq x t) (is_member tree_eq (unique_keys tree_eq ts) x) (more (later f))
 
 -- the nodes of some trees
-node-in : (x : Tree) (ts : List Tree) → IsNodeOf x ts → Contains (flat_map subtrees_of ts) x
+pub node-in : (x : Tree) (ts : List Tree) → IsNodeOf x ts → Contains (flat_map subtrees_of ts) x
 node-in x [] h = absurd h
 node-in x (t ∷ ts) (inl a) = Contains-append_left (subtrees_of t) (flat_map subtrees_of ts) x (nodes-node x t a)
 node-in x (t ∷ ts) (inr a) = Contains-append_right (subtrees_of t) (flat_map subtrees_of ts) x (node-in x ts a)
@@ -95,7 +83,7 @@ module _ (sizes : List ℕ) (begun s : SeatValue) (fs : List Function) (made : H
   nodes = flat_map subtrees_of (test_trees sizes fs)
 
   published-at : (k : ℕ) (d : Entry) → k < length all → now.published (get_or all k d) ≡ true
-  published-at k d b = any-at (λ p. p.0 == (get_or all k d).0) all k d b (grind (arith, nat_tests))
+  published-at k d b = list_any_at (λ p. p.0 == (get_or all k d).0) all k d b (grind (arith, nat_tests))
 
   node-at : (k : ℕ) (d : Entry) → k < length all → IsNodeOf (now.tree (get_or all k d)) (test_trees sizes fs)
   node-at k d b = elim (made.makes.only (get_or all k d) (published-at k d b)) [

@@ -1,5 +1,6 @@
 -- The end of a turn: what is made one after the other, and what is told of it.
 use Rattle.std.proofs.Common.{◌≡◌, ℕ, suc, ◌<◌, ◌^◌, List, [], ◌∷◌, ◌++◌, length, refl, sym, ◌∙◌, ap, subst, subst₂, ℤ, pos, true, Ok, Err, All}
+use Rattle.spd_scaled.proofs.CallerLemmas.Ring.{int_le-holds}
 use Rattle.spd_scaled.specs.Scaled.{IsWithin}
 use Rattle.spd_cons_core.specs.declared.key.Entry.{Entry}
 use Rattle.spd_model.specs.Process.{Process}
@@ -35,7 +36,8 @@ use Rattle.spd_ranges.specs.declared.merging.Ranged.{Ranged}
 use Rattle.spd_ranges.specs.Merging.{at_most, HaveBest, MergesTurn, turn_pairs, turn_ranges, turn_values}
 use Rattle.spd_turn.specs.declared.ending.Finished.{Finished}
 use Rattle.spd_turn.specs.Turn.{CanFinish, IsFinished, IsPresent, IsToldOf, finish_functions, greatest_low, present_value, value_of_turn}
-use Rattle.spd_turn.proofs.BoundLaws.{bounds-count, bounds-numeric, le-holds, place-near}
+use Rattle.spd_policy.proofs.CallerLemmas.{bounds-numeric}
+use Rattle.spd_turn.proofs.BoundLaws.{bounds-count, place-near}
 
 -- ---- calls that make nodes of several functions
 
@@ -48,7 +50,7 @@ all-then {v = v} e a h k = record { made = has-then a h k.made; fault = fault-wi
 -- ---- entries
 
 -- an entry of a function of the present state
-present-of : (s : Shown) (r : Entry) (f : List ℕ → Leaf) → StandsFor s r (λ x t. f x) → IsPresent s r
+pub present-of : (s : Shown) (r : Entry) (f : List ℕ → Leaf) → StandsFor s r (λ x t. f x) → IsPresent s r
 present-of s r f h = record { known = h.knows; whole = h.whole; present = record { at = λ x y p q. h.value.at x y p q ∙ sym (h.value.at x x p p) } }
 
 -- its list of nodes
@@ -116,7 +118,7 @@ module _ (m : Process) (law : IsLawful m) (valid : IsValid m) (span : ℤ) (k : 
       best-fit = record {
         at = λ x y p q.
             subst₂ (λ c d. at_most c d ≡ true) (sym (b.ok.low.value.at x y p q)) (sym (b.ok.high.value.at x y p q))
-            (le-holds (best_low m value x) (best_high m value x) (best_ordered m valid value x (state t b.grows x p)));
+            (int_le-holds (best_low m value x) (best_high m value x) (best_ordered m valid value x (state t b.grows x p)));
       }
 
       -- the merge isn't made

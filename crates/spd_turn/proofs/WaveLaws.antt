@@ -1,7 +1,7 @@
 -- Jobs that were dealt, and what their joined seats show.
 use Rattle.std.proofs.Common.{◌≡◌, ℕ, zero, suc, ◌+◌, ◌<◌, ◌≤◌, List, [], ◌∷◌, ◌++◌, length, map, get_or, take, refl, sym, ap, ◌∙◌, subst, arith, Option, Some, None, Ok, Err, Result, IfOk, All, true, ℤ, slice_get}
 use Rattle.std.proofs.lemmas.List.{length-map, length-append, take_more, take_all}
-use Rattle.std.proofs.lemmas.List.Elements.{All-nil, All-cons, All-head, All-tail, All-append}
+use Rattle.std.proofs.lemmas.List.Elements.{All-nil, All-cons, All-head, All-tail, All-push}
 use Rattle.std.proofs.lemmas.Option.{slice_get-get_or, slice_get_within}
 use Rattle.spd_cons.specs.Values.{TableValue}
 use Rattle.spd_cons_core.specs.declared.key.Entry.{Entry}
@@ -34,7 +34,7 @@ rewards-count {m = m} {s = s} {x = x} h = stand-length s x.rewards.items (map (r
 pub few-actions : {s : Shown} {x : Thawed} {w : Entry} → IsBackupReady s x w → length x.rewards.items ≤ 64
 few-actions r = subst (λ n. n ≤ 64) (sym (rewards-count r.can.thawed)) r.can.thawed.law.few_actions
 
-some-action : (actions : List Action) (k : ℕ) → k < length actions → (a : Action) × (slice_get actions k ≡ Some a)
+pub some-action : (actions : List Action) (k : ℕ) → k < length actions → (a : Action) × (slice_get actions k ≡ Some a)
 some-action [] k b = absurd (omega arith)
 some-action (a ∷ actions) k b = (get_or (a ∷ actions) k a, slice_get-get_or (a ∷ actions) k a b)
 
@@ -95,22 +95,19 @@ bounds-grow m a value s t b g h = record {
   high_expected = record { each = λ i k. let e = h.high_expected.each i k in record { ref = e.ref; stands = stands-grows g e.stands } };
 }
 
-backed-grow : (m : Process) (value : List ℕ → ℤ) (s t : Shown) (bs : List Bounds) (actions : List Action) → Grows s t → AreBackedUp m value s bs actions → AreBackedUp m value t bs actions
+pub backed-grow : (m : Process) (value : List ℕ → ℤ) (s t : Shown) (bs : List Bounds) (actions : List Action) → Grows s t → AreBackedUp m value s bs actions → AreBackedUp m value t bs actions
 backed-grow m value s t [] [] g h = tt
 backed-grow m value s t [] (a ∷ actions) g h = absurd h
 backed-grow m value s t (b ∷ bs) [] g h = absurd h
 backed-grow m value s t (b ∷ bs) (a ∷ actions) g h = (bounds-grow m a value s t b g h.0, backed-grow m value s t bs actions g h.1)
 
-backed-push : (m : Process) (value : List ℕ → ℤ) (s : Shown) (bs : List Bounds) (actions : List Action) (b : Bounds) (a : Action) → AreBackedUp m value s bs actions → AreBounds m a value s b → AreBackedUp m value s (bs ++ b ∷ []) (actions ++ a ∷ [])
+pub backed-push : (m : Process) (value : List ℕ → ℤ) (s : Shown) (bs : List Bounds) (actions : List Action) (b : Bounds) (a : Action) → AreBackedUp m value s bs actions → AreBounds m a value s b → AreBackedUp m value s (bs ++ b ∷ []) (actions ++ a ∷ [])
 backed-push m value s [] [] b a h k = (k, tt)
 backed-push m value s [] (c ∷ actions) b a h k = absurd h
 backed-push m value s (d ∷ bs) [] b a h k = absurd h
 backed-push m value s (d ∷ bs) (c ∷ actions) b a h k = (h.0, backed-push m value s bs actions b a h.1 k)
 
 -- ---- lists with one more member
-
-pub all-push : {X : Type 0} (P : X → Type 0) (xs : List X) (y : X) → All P xs → P y → All P (xs ++ y ∷ [])
-all-push P xs y h k = All-append P xs (y ∷ []) h (All-cons P y [] k (All-nil P))
 
 all-front : {X : Type 0} (P : X → Type 0) (xs : List X) (y : X) → All P (xs ++ y ∷ []) → All P xs
 all-front P [] y h = All-nil P
@@ -179,7 +176,7 @@ module _ (g : GroveValue) (lanes0 : List Tables) (bounds0 : List Bounds) (ys : L
       let front = before.hold x h (all-front (λ (k : JobValue). k.thawed ≡ x) ys j own) in
       let last : j.thawed ≡ x = all-last (λ (k : JobValue). k.thawed ≡ x) ys j own in
       let mine : HoldFor x (job_shown j) j.tables = subst (λ (z : Thawed). HoldFor z (job_shown j) j.tables) last held in
-      all-push (HoldFor x (shown_of g2)) lanes j.tables (hold-all x (shown_of g1) (shown_of g2) lanes joins.first front) (hold-keeps (job_shown j) (shown_of g2) (grows-keeps joins.second) x j.tables mine)
+      All-push (HoldFor x (shown_of g2)) lanes j.tables (hold-all x (shown_of g1) (shown_of g2) lanes joins.first front) (hold-keeps (job_shown j) (shown_of g2) (grows-keeps joins.second) x j.tables mine)
 
   have-more : (m : Process) (value : List ℕ → ℤ) (start : Shown) (x : Thawed) (w : Entry) (first : ℕ) → EachFrom (HasRun g.seat.table (shown_of g) x w) first (ys ++ j ∷ []) → CanBackUp m value (shown_of g) x w
       → first + length (ys ++ j ∷ []) ≤ length m.actions → HaveRun m value start first (shown_of g) bounds0 None → HaveRun m value start (first + length (ys ++ j ∷ [])) (shown_of g2) (with_bounds bounds j.outcome) (first_fault fault j.outcome)

@@ -56,11 +56,13 @@ pub record StandsAt (process : Process) (options : Options) (k : ℕ) (r : RunVa
   pub turn : r.iterate.turn ≡ k
 
 -- What going on answers: the next turn, where the stop rule doesn't hold and the limit isn't reached; that the run stops, which changes
--- nothing: as done where the rule holds, else at the limit; or a fault of the next turn, which changes nothing.
+-- nothing: as done where the rule holds, else at the limit; or a fault of the next turn, where the run goes on to it, which changes nothing.
 abbrev pub AnswersRun : RunValue → RunValue → Result Advance TurnFault → Type 0
 AnswersRun old new (Ok A.Turned) =
     StandsAt old.process old.options (old.iterate.turn + 1) new × (rule_at old.process old.options.span old.iterate.turn ≡ false) × (old.iterate.turn < old.options.turns)
 AnswersRun old new (Ok (A.Stopped Done)) = (new ≡ old) × (rule_at old.process old.options.span old.iterate.turn ≡ true)
 AnswersRun old new (Ok (A.Stopped Limit)) =
     (new ≡ old) × (rule_at old.process old.options.span old.iterate.turn ≡ false) × (old.iterate.turn ≡ old.options.turns)
-AnswersRun old new (Err e) = (new ≡ old) × IsFaultOf old.process old.options.span old.options.nodes (old.iterate.turn + 1) e
+AnswersRun old new (Err e) =
+    (new ≡ old) × (rule_at old.process old.options.span old.iterate.turn ≡ false) × (old.iterate.turn < old.options.turns)
+    × IsFaultOf old.process old.options.span old.options.nodes (old.iterate.turn + 1) e

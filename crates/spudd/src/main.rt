@@ -4,17 +4,21 @@
 use spd_edge::{RealPlace, StdErr, StdOut, WriterOut};
 use spd_model::Word;
 use spd_solver::{Status, number, solve_run, write_message};
+use spd_tasks::Open;
 use sqlite_items::Items;
 use std::alloc::AllocError;
 use std::env::{Env, FillError};
 use std::process::ExitCode;
+use std::thread::Threads;
 
 /// What `--help` prints.
 const HELP: &str = "\
 spudd: near-optimal values and policies of factored Markov decision processes
 
-    spudd solve FILE     solves the model in FILE and prints the result; `-` is standard input
-    spudd plain FILE     the same, always over tables; of the options it takes --turns and --span
+    spudd solve FILE     solves the model in FILE on decision diagrams and prints the result;
+                         `-` is standard input
+    spudd plain FILE     the same over tables, of up to 4096 states; of the options it takes
+                         --turns and --span
     spudd --help         prints this
     spudd --version      prints the version
 
@@ -22,13 +26,14 @@ Options, as --turns 20 or --turns=20. Behind the word -- no word is an option.
     --turns N      the last turn that a run may reach: 0 to 1000000, else 10000
     --span X       the width of a range of values that become one: a decimal from 0 to 10^21, else 0
     --workers N    how many threads compute a turn: 1 to 64, else 1
-    --nodes N      how many nodes a diagram's store may hold: 16 to 8388608, else 262144
+    --nodes N      how many nodes building or a turn may have: 16 to 8388608, else 262144
     --memo N       how many answers a memo table keeps: 1 to 8388608, else 65536
-Models of up to 4096 states are solved, over tables, where the last three have no effect.
+A result depends on --turns and --span alone.
 
 Exit status: 0 done, 2 wrong words, 3 a file can't be opened or read, 4 a file is too long,
 5 a file is refused, 6 probabilities don't sum to one, 7 a reward is too large,
-8 turn limit reached, 12 the result can't be written, 13 too many states, 14 out of memory.
+8 turn limit reached, 9 node limit passed, 12 the result can't be written, 13 too many states,
+14 out of memory.
 docs/FORMAT.md explains the model file and the result.
 ";
 
@@ -71,11 +76,11 @@ fn page(words: &[Word]) -> Option<&'static str> {
     }
 }
 
-/// Runs the command of the words on the system's files, and says how it ended.
-fn run(rt: HostRuntime, words: &[Word]) -> Status {
+/// Runs the command of the words on the system's files, with threads that this handle starts, and says how it ended.
+fn run<R: Threads + Sync>(threads: &R, rt: HostRuntime, words: &[Word]) -> Status {
     let mut place = RealPlace::new(rt);
     let mut output: StdOut = WriterOut::new(Vec::new(rt.alloc()), rt.stdout());
-    solve_run(rt.alloc(), words, &mut place, &mut output)
+    solve_run(threads, &Open, rt.alloc(), words, &mut place, &mut output)
 }
 
 fn main(rt: HostRuntime) -> ExitCode {
@@ -85,7 +90,7 @@ fn main(rt: HostRuntime) -> ExitCode {
                 Ok(()) => Status::Done,
                 Err(_) => Status::WriteFault,
             },
-            None => run(rt, &words),
+            None => run(&rt, rt, &words),
         },
         Err(AllocError) => Status::Memory,
     };

@@ -1,7 +1,7 @@
 -- What freezing keeps of a forest: entries with their nodes, in order of first completion.
 use Rattle.std.specs.Prelude.{◌≡◌, ℕ, ◌<◌, ◌⊎◌, List, [], ◌∷◌, ◌++◌, length, map, All, Contains, true, slice_get, Some}
 use Rattle.spd_cons_core.specs.declared.key.Entry.{Entry}
-use Rattle.spd_model.specs.Reduced.{Diagram, Subtrees, none, Node, reduced, with_node, nodes_after, nodes_after_all, node_number}
+use Rattle.spd_model.specs.Reduced.{Diagram, Subtrees, none, Node, reduced, nodes_after, nodes_after_all, node_number}
 use Rattle.spd_nodes.specs.declared.leaf.Leaf.{Leaf}
 use Rattle.spd_nodes.specs.Levels.{slots}
 use Rattle.spd_nodes.specs.Trees.{leaf_eq}

@@ -24,7 +24,7 @@ use Rattle.spd_model.proofs.CallerLemmas.Greatest.{greatest_ordered, greatest_at
 use Rattle.spd_model.proofs.CallerLemmas.StateOrder.{IsState-get_or, IsState-drop, IsState-none, length-states, length-sizes, All-table_of_back}
 use Rattle.spd_model.proofs.CallerLemmas.Chances.{Chance, AreChances, chances_of}
 
-floor-≤ℤ-ceil : (x y d : ℤ) → pos 0 <ℤ d → x ≤ℤ y → floor_div x d ≤ℤ ceil_div y d
+pub floor-≤ℤ-ceil : (x y d : ℤ) → pos 0 <ℤ d → x ≤ℤ y → floor_div x d ≤ℤ ceil_div y d
 floor-≤ℤ-ceil x y d p h = ≤ℤ_trans (floor_div x d) (floor_div y d) (ceil_div y d) (floor_div_mono x y d p h) (floor_div-≤ℤ-ceil_div y d p)
 
 -- the lower expectation is at most the upper one
@@ -36,7 +36,7 @@ expected_ordered sizes chance chances w (suc i) rest near is =
     (sum_below_mono (slice_index sizes i) _ _ (λ v below. *ℤ_mono_right (chance i v rest) _ _ (chances.nonnegative i v rest near below is)
     (expected_ordered sizes chance chances w i (v ∷ rest) (omega arith) (IsState-drop sizes i v rest near below is))))
 
-max_cases : (b : Bool) (x y : ℤ) → (cond b x y ≡ x) ⊎ (cond b x y ≡ y)
+pub max_cases : (b : Bool) (x y : ℤ) → (cond b x y ≡ x) ⊎ (cond b x y ≡ y)
 max_cases true x y = inl refl
 max_cases false x y = inr refl
 

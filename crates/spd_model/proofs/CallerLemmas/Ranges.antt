@@ -1,6 +1,5 @@
 -- Which ranges are the same.
 use Rattle.std.proofs.Common.{◌≡◌, true, refl}
-use Rattle.std.specs.Ordering.{int_eq}
 use Rattle.std.proofs.lemmas.Bool.Decides.{Decides-int_eq}
 use Rattle.spd_model.specs.Ranges.{Range, is_same}
 

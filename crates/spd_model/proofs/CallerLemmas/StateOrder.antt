@@ -224,3 +224,22 @@ state_count_some (size ∷ sizes) h =
     let there = state_count_some sizes (All-tail (λ n. 0 < n) size sizes h) in
     let more = mul-le-mul_right (state_count sizes) here in
     omega (arith, more, there)
+
+-- ---- how many states the first variables have
+
+pub state_count-take : (sizes : List ℕ) (k : ℕ) → k < length sizes → state_count (take (suc k) sizes) ≡ state_count (take k sizes) * get_or sizes k 0
+state_count-take [] k near = absurd (omega arith)
+state_count-take (size ∷ sizes) zero near = omega arith
+state_count-take (size ∷ sizes) (suc k) near =
+    let more = state_count-take sizes k (omega arith) in
+    ap (λ n. size * n) more ∙ omega arith
+
+-- the size of a variable that is read
+pub size_read : (m : Process) (vars : List Var) (k : ℕ) (x : Var) → vars ≡ m.vars → k < length vars → x ≡ get_or vars k x → length x.values ≡ get_or (sizes m) k 0
+size_read m vars k x are near is =
+    ap (λ (v : Var). length v.values) (is ∙ ap (λ (l : List Var). get_or l k x) are)
+    ∙ sym (get_or-map (λ (v : Var). length v.values) m.vars k x 0 (omega (arith, ap length are)))
+
+-- the product with one variable more
+pub next_product : (m : Process) (k count size : ℕ) → k < length m.vars → count ≡ state_count (take k (sizes m)) → size ≡ get_or (sizes m) k 0 → count * size ≡ state_count (take (suc k) (sizes m))
+next_product m k count size near is here = (λ i. is i * here i) ∙ sym (state_count-take (sizes m) k (omega (arith, length-sizes m)))

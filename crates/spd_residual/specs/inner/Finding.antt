@@ -1,6 +1,5 @@
 -- What diagrams tell of the gaps at each state, on the way to a residual.
 use Rattle.std.specs.Prelude.{◌≡◌, ◌⊎◌, ℕ, true, List, pos, ◌-ℤ◌, ◌≤ℤ◌, Result, IfOk}
-use Rattle.std.specs.List.{position_or_len}
 use Rattle.spd_cons_core.specs.declared.key.Entry.{Entry}
 use Rattle.spd_model.specs.States.{IsState}
 use Rattle.spd_nodes.specs.declared.leaf.Leaf.{Leaf}
@@ -9,14 +8,13 @@ use Rattle.spd_nodes.specs.declared.forest.StoreFault.{StoreFault}
 use Rattle.spd_nodes.specs.Made.{MakesAll}
 use Rattle.spd_nodes.specs.Shown.{Shown, IsWhole, StandsFor, meaning}
 use Rattle.spd_nodes.specs.States.{Function}
-use Rattle.spd_nodes.specs.Trees.{leaf_eq}
 use Rattle.spd_apply.specs.Leaves.{IsTaken, leaf_before}
 use Rattle.spd_weigh.specs.Leaves.{number_of}
 use Rattle.spd_build.specs.Functions.{numbers}
 use Rattle.spd_backup.specs.declared.backing.Bounds.{Bounds}
 use Rattle.spd_policy.specs.declared.chosen.Best.{Best}
 use Rattle.spd_residual.specs.declared.gaps.GapDiagrams.{GapDiagrams}
-use Rattle.spd_residual.specs.Residual.{Gaps, greater_gap, residual_functions}
+use Rattle.spd_residual.specs.Residual.{Gaps, first_upper, greater_gap, residual_functions}
 
 -- a value and the best bounds have these gaps at all states
 pub record HaveGaps (g : Gaps) (s : Shown) (w : Entry) (best : Best) : Type 0 where
@@ -33,10 +31,6 @@ pub record AreGaps (g : Gaps) (s : Shown) (d : GapDiagrams) : Type 0 where
 pub record MakesGaps (g : Gaps) (old new : Shown) (result : Result GapDiagrams StoreFault) : Type 0 where
   pub all : MakesAll old new (residual_functions g) result
   pub ok : IfOk result (AreGaps g new)
-
--- the first of some bounds whose upper one has a leaf at a state; their number where none has it
-abbrev pub first_upper : Shown → List Bounds → Leaf → List ℕ → ℕ
-first_upper s bounds leaf x = position_or_len (λ (b : Bounds). leaf_eq leaf (meaning s b.hi x x)) bounds
 
 -- the actions at each state: the first with the greatest upper bound, and the policy's
 pub record HaveActions (g : Gaps) (s : Shown) (bounds : List Bounds) (best : Best) : Type 0 where

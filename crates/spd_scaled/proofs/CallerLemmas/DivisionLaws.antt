@@ -1,7 +1,7 @@
 -- Division that rounds down or up: what the quotient is bounded by, that the bounds fix it, and what follows.
 --
 -- Everything but the first two laws follows from the bounds, so no proof elsewhere needs the definitions' cases.
-use Rattle.std.proofs.Common.{◌≡◌, ◌<◌, ℤ, pos, negsuc, neg_ℤ, ◌+ℤ◌, ◌*ℤ◌, ◌≤ℤ◌, ◌<ℤ◌, arith, sym}
+use Rattle.std.proofs.Common.{◌≡◌, ◌<◌, ℤ, pos, negsuc, neg_ℤ, ◌+ℤ◌, ◌*ℤ◌, ◌≤ℤ◌, ◌<ℤ◌, arith}
 use Rattle.std.proofs.lemmas.Int.{ints}
 use native.Mathlib.Nat.{div-add-mod', mod-lt}
 use Rattle.spd_scaled.proofs.CallerLemmas.Ring.{neg_ℤ-*ℤ, *ℤ_cancel_within, ≤ℤ_antisymm}

@@ -4,7 +4,7 @@
 -- adds up. At a hypothesis: `let h' = simp ring at h in ..`. Where nothing is left to rewrite `simp` is refused, so
 -- leave that call out. State such a fact over variables of ℤ with premises as `pos 0 ≤ℤ x`: `pos a *ℤ pos b` computes
 -- to `pos (a * b)`, which the set doesn't read.
-use Rattle.std.proofs.Common.{◌≡◌, ℕ, ◌*◌, ℤ, pos, negsuc, neg_ℤ, ◌+ℤ◌, ◌-ℤ◌, ◌*ℤ◌, ◌≤ℤ◌, ◌<ℤ◌, true, false, int_lt, rules, arith, ap, sym, ◌∙◌}
+use Rattle.std.proofs.Common.{◌≡◌, ℕ, ◌*◌, ℤ, pos, negsuc, neg_ℤ, ◌+ℤ◌, ◌-ℤ◌, ◌*ℤ◌, ◌≤ℤ◌, ◌<ℤ◌, true, false, int_le, int_lt, rules, arith, ap, sym, ◌∙◌}
 use Rattle.std.proofs.lemmas.Int.{ints, by_lt_z}
 use Rattle.std.proofs.lemmas.Bool.Decides.{Decides-int_eq}
 use Rattle.std.specs.Ordering.{int_eq}
@@ -108,6 +108,9 @@ int_lt-false x y h = grind (arith, ints)
 
 pub int_eq-true : (x y : ℤ) → int_eq x y ≡ true → x ≡ y
 int_eq-true x y h = search (rules, Decides-int_eq)
+
+pub int_le-holds : (x y : ℤ) → x ≤ℤ y → int_le x y ≡ true
+int_le-holds x y h = grind (arith, ints)
 
 pub int_eq-holds : (x y : ℤ) → x ≡ y → int_eq x y ≡ true
 int_eq-holds x y h = search (rules, Decides-int_eq)

@@ -1,5 +1,5 @@
 -- The text of a scaled number: its digits, and how long it is.
-use Rattle.std.proofs.Common.{◌≡◌, ℕ, zero, suc, ◌+◌, ◌*◌, ◌/◌, ◌%◌, ◌^◌, ◌<◌, ◌⊎◌, List, [], ◌∷◌, ◌-◌, length, take, drop, take_all, ℤ, unsigned_abs, decimal, refl, inl, inr, lit<, arith, ◌∙◌, length-append}
+use Rattle.std.proofs.Common.{◌≡◌, ℕ, zero, suc, ◌+◌, ◌*◌, ◌/◌, ◌%◌, ◌^◌, ◌<◌, ◌⊎◌, List, [], ◌∷◌, ◌-◌, length, take, drop, take_all, decimal, refl, inl, inr, lit<, arith, ◌∙◌, length-append}
 use Rattle.std.proofs.lemmas.Fmt.{decimal_digit, decimal_step_wide}
 use Rattle.std.proofs.Math.Nat.{pow-suc, mod-lt}
 use Rattle.std.proofs.lemmas.Nat.{div-mul-add, mod-mul-add}
@@ -8,7 +8,7 @@ use Rattle.std.proofs.lemmas.Int.Digits.{digits_push, digits_value_push}
 use Rattle.std.specs.Str.Parse.{AllDigits, digits_value}
 use Rattle.std.specs.Char.{digit_value}
 use Rattle.std.proofs.lemmas.Str.{digit_value_digit}
-use Rattle.spd_scaled.specs.Units.{last_digits, sign_text, units_text}
+use Rattle.spd_scaled.specs.Units.{last_digits}
 
 pub length-last_digits : (count n : ℕ) → length (last_digits count n) ≡ count
 length-last_digits zero n = refl

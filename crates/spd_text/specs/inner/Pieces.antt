@@ -1,6 +1,5 @@
 -- Pieces of a text that are written one after another, by way of bytes that wait to be written.
 use Rattle.std.specs.Prelude.{ℕ, ◌≡◌, List, [], ◌∷◌, ◌++◌, flat_map, Option, Result, OnOk}
-use Rattle.std.specs.Borrow.{Bor}
 use Rattle.spd_model.specs.Process.{Process}
 use Rattle.spd_model.specs.ResultText.{units, action_name}
 use Rattle.spd_nodes.specs.declared.leaf.Leaf.{Leaf}
@@ -26,10 +25,6 @@ pub record Writes {T E : Type 0} (before : Shown) (waiting text : List ℕ) (res
   pub kept : OnOk result (waits ≡ rest)
   pub count : Counted before.faults result now.faults
   pub named : now.name ≡ before.name
-
--- the bytes of pieces, one after another
-abbrev pub text_of_pieces : List (Bor (List ℕ)) → List ℕ
-text_of_pieces pieces = flat_map (λ (piece : Bor (List ℕ)). piece.now) pieces
 
 -- words, each behind a space
 abbrev pub spaced : List (List ℕ) → List ℕ

@@ -1,14 +1,9 @@
-use Rattle.std.proofs.Common.{length, ◌∙◌, refl, sym, subst, Ok}
-use Rattle.spd_apply.proofs.CallerLemmas.{answers-grow}
-use Rattle.spd_weigh.specs.declared.way.Way.TheVariants.{Down, Up}
-use Rattle.spd_backup.specs.Exact.{HoldDown}
+use Rattle.std.proofs.Common.{length, ◌∙◌, sym, subst, Ok}
 use Rattle.spd_backup.specs.Expected.{BacksUp}
 use Rattle.spd_backup.proofs.BackLaws.{back-fails, both-made, follows-grows, followed-grows, high-fails, is-followed, low-fails, next-follows, next-made}
 use Rattle.spd_model.proofs.CallerLemmas.Results.{err_is}
-use Rattle.spd_backup.proofs.ExactLaws.{down-held, down-none}
-use Rattle.spd_backup.proofs.KeepingLaws.{last-grows, way-grows}
+use Rattle.spd_backup.proofs.KeepingLaws.{all-grow}
 use Rattle.spd_backup.proofs.backing.backup_with.Goals as goal
-use Rattle.spd_nodes.proofs.CallerLemmas.{grows-then}
 
 pub primed_of-requires : goal.primed_of-requires
 primed_of-requires g c = record { known = c.requires.known; whole = c.requires.whole; plain = c.requires.plain; last = c.requires.tables.next }
@@ -27,13 +22,8 @@ pub returns-in_err-next-clause-tables : goal.returns-in_err-next-clause-tables
 returns-in_err-next-clause-tables g c =
     let s = g.F.Forest.shows c.args.forest.now in
     let t = g.F.Forest.shows c.primed_of.new.forest in
-    let grows = c.in_err-next.ensures.made.grows in
-    record {
-      next = c.primed_of.ensures.last;
-      down = way-grows Down (length c.args.thawed.now.sizes.items) c.args.thawed.now.g s t c.args.tables.now.down grows c.requires.tables.down;
-      up = way-grows Up (length c.args.thawed.now.sizes.items) c.args.thawed.now.g s t c.args.tables.now.up grows c.requires.tables.up;
-      adds = answers-grow c.requires.tables.adds grows;
-    }
+    let held = all-grow (length c.args.thawed.now.sizes.items) c.args.thawed.now.g s t c.args.tables.now c.in_err-next.ensures.made.grows c.requires.tables in
+    record { next = c.primed_of.ensures.last; down = held.down; up = held.up; adds = held.adds }
 
 -- ---- the lower bound
 
@@ -42,11 +32,10 @@ bound_of-requires g c =
     let s = g.F.Forest.shows c.args.forest.now in
     let t = g.F.Forest.shows c.primed_of.new.forest in
     let made = c.in_ok-next.ensures.made in
+    let held = all-grow (length c.args.thawed.now.sizes.items) c.args.thawed.now.g s t c.args.tables.now made.grows c.requires.tables in
     record {
       followed = is-followed s c.args.thawed.now c.args.action c.args.w c.layout.ensures.sound c.requires.thawed c.requires.values t c.in_ok-next.next made;
-      down = down-none t _ refl;
-      tables = way-grows Down (length c.args.thawed.now.sizes.items) c.args.thawed.now.g s t c.args.tables.now.down made.grows c.requires.tables.down;
-      adds = answers-grow c.requires.tables.adds made.grows;
+      tables = record { next = c.primed_of.ensures.last; down = held.down; up = held.up; adds = held.adds };
     }
 
 pub returns-in_err-lo-clause-made : goal.returns-in_err-lo-clause-made
@@ -62,18 +51,7 @@ pub returns-in_err-lo-clause-keeps : goal.returns-in_err-lo-clause-keeps
 returns-in_err-lo-clause-keeps g c = c.bound_of.ensures.keeps ∙ c.primed_of.ensures.keeps
 
 pub returns-in_err-lo-clause-tables : goal.returns-in_err-lo-clause-tables
-returns-in_err-lo-clause-tables g c =
-    let s = g.F.Forest.shows c.args.forest.now in
-    let t = g.F.Forest.shows c.primed_of.new.forest in
-    let u = g.F.Forest.shows c.bound_of.new.forest in
-    let k = is-followed s c.args.thawed.now c.args.action c.args.w c.layout.ensures.sound c.requires.thawed c.requires.values t c.in_ok-next.next c.in_ok-next.ensures.made in
-    let grows = (c.in_err-lo.ensures.made k.process k.chosen k.value k.follows).among.grows in
-    record {
-      next = last-grows t u c.primed_of.new.last grows c.primed_of.ensures.last;
-      down = c.bound_of.ensures.tables;
-      up = way-grows Up (length c.args.thawed.now.sizes.items) c.args.thawed.now.g s u c.args.tables.now.up (grows-then c.in_ok-next.ensures.made.grows grows) c.requires.tables.up;
-      adds = c.bound_of.ensures.adds;
-    }
+returns-in_err-lo-clause-tables g c = c.bound_of.ensures.tables
 
 -- ---- the upper bound
 
@@ -81,14 +59,10 @@ pub bound_of-requires-2 : goal.bound_of-requires-2
 bound_of-requires-2 g c =
     let s = g.F.Forest.shows c.args.forest.now in
     let t = g.F.Forest.shows c.primed_of.new.forest in
-    let u = g.F.Forest.shows c.bound_of.new.forest in
     let k = is-followed s c.args.thawed.now c.args.action c.args.w c.layout.ensures.sound c.requires.thawed c.requires.values t c.in_ok-next.next c.in_ok-next.ensures.made in
-    let grows = (c.in_ok-lo.ensures.made k.process k.chosen k.value k.follows).among.grows in
     record {
-      followed = followed-grows grows k;
-      down = subst (HoldDown u) (sym c.as_slice.ensures.value) (down-held u (length c.args.thawed.now.sizes.items) c.bound_of.new.tables.sums.items c.bound_of.ensures.tables.sums);
-      tables = way-grows Up (length c.args.thawed.now.sizes.items) c.args.thawed.now.g s u c.args.tables.now.up (grows-then c.in_ok-next.ensures.made.grows grows) c.requires.tables.up;
-      adds = c.bound_of.ensures.adds;
+      followed = followed-grows (c.in_ok-lo.ensures.made k.process k.chosen k.value k.follows).among.grows k;
+      tables = c.bound_of.ensures.tables;
     }
 
 pub returns-in_err-hi-clause-made : goal.returns-in_err-hi-clause-made
@@ -105,20 +79,7 @@ pub returns-in_err-hi-clause-keeps : goal.returns-in_err-hi-clause-keeps
 returns-in_err-hi-clause-keeps g c = c.bound_of-2.ensures.keeps ∙ c.bound_of.ensures.keeps ∙ c.primed_of.ensures.keeps
 
 pub returns-in_err-hi-clause-tables : goal.returns-in_err-hi-clause-tables
-returns-in_err-hi-clause-tables g c =
-    let s = g.F.Forest.shows c.args.forest.now in
-    let t = g.F.Forest.shows c.primed_of.new.forest in
-    let u = g.F.Forest.shows c.bound_of.new.forest in
-    let v = g.F.Forest.shows c.bound_of-2.new.forest in
-    let k = is-followed s c.args.thawed.now c.args.action c.args.w c.layout.ensures.sound c.requires.thawed c.requires.values t c.in_ok-next.next c.in_ok-next.ensures.made in
-    let low = (c.in_ok-lo.ensures.made k.process k.chosen k.value k.follows).among.grows in
-    let high = (c.in_err-hi.ensures.made k.process k.chosen k.value (follows-grows low k.follows)).among.grows in
-    record {
-      next = last-grows t v c.primed_of.new.last (grows-then low high) c.primed_of.ensures.last;
-      down = way-grows Down (length c.args.thawed.now.sizes.items) c.args.thawed.now.g u v c.bound_of.new.tables high c.bound_of.ensures.tables;
-      up = c.bound_of-2.ensures.tables;
-      adds = c.bound_of-2.ensures.adds;
-    }
+returns-in_err-hi-clause-tables g c = c.bound_of-2.ensures.tables
 
 -- ---- both
 
@@ -135,17 +96,4 @@ pub returns-clause-keeps : goal.returns-clause-keeps
 returns-clause-keeps g c = c.bound_of-2.ensures.keeps ∙ c.bound_of.ensures.keeps ∙ c.primed_of.ensures.keeps
 
 pub returns-clause-tables : goal.returns-clause-tables
-returns-clause-tables g c =
-    let s = g.F.Forest.shows c.args.forest.now in
-    let t = g.F.Forest.shows c.primed_of.new.forest in
-    let u = g.F.Forest.shows c.bound_of.new.forest in
-    let v = g.F.Forest.shows c.bound_of-2.new.forest in
-    let k = is-followed s c.args.thawed.now c.args.action c.args.w c.layout.ensures.sound c.requires.thawed c.requires.values t c.in_ok-next.next c.in_ok-next.ensures.made in
-    let low = (c.in_ok-lo.ensures.made k.process k.chosen k.value k.follows).among.grows in
-    let high = (c.in_ok-hi.ensures.made k.process k.chosen k.value (follows-grows low k.follows)).among.grows in
-    record {
-      next = last-grows t v c.primed_of.new.last (grows-then low high) c.primed_of.ensures.last;
-      down = way-grows Down (length c.args.thawed.now.sizes.items) c.args.thawed.now.g u v c.bound_of.new.tables high c.bound_of.ensures.tables;
-      up = c.bound_of-2.ensures.tables;
-      adds = c.bound_of-2.ensures.adds;
-    }
+returns-clause-tables g c = c.bound_of-2.ensures.tables

@@ -1,76 +1,71 @@
 use Rattle.std.proofs.Common.{◌<◌, length, rules, ◌∙◌, sym, subst}
 use Rattle.spd_backup.specs.Making.{MakesBound}
 use Rattle.spd_apply.proofs.CallerLemmas.{answers-grow}
+use Rattle.spd_weigh.specs.declared.way.Way.TheVariants.{Down, Up}
 use Rattle.spd_weigh.proofs.CallerLemmas.{discounts-grow}
 use Rattle.spd_backup.proofs.BoundLaws.{small-discount, expected-values, later-made, reward-here, bound-fits, bound-made}
-use Rattle.spd_backup.proofs.KeepingLaws.{each-grow}
+use Rattle.spd_backup.proofs.KeepingLaws.{all-grow}
 use Rattle.spd_model.proofs.CallerLemmas.Results.{err_is}
 use Rattle.spd_backup.proofs.PartLaws.{reward-room}
 use Rattle.spd_backup.proofs.backing.bound_of.Goals as goal
 use Rattle.spd_nodes.proofs.CallerLemmas.{among-fails, grows-then}
 
-pub expect-requires : goal.expect-requires
-expect-requires g c = record { followed = c.requires.followed; down = c.requires.down; sums = c.requires.tables.sums }
+pub expected_of-requires : goal.expected_of-requires
+expected_of-requires g c = record { followed = c.requires.followed; tables = c.requires.tables }
 
 -- ---- where the expectation isn't made
 
 pub returns-in_err-expected-clause-made : goal.returns-in_err-expected-clause-made
 returns-in_err-expected-clause-made g c = λ m a w f.
-    subst (MakesBound c.args.way m a w (g.F.Forest.shows c.args.forest.now) (g.F.Forest.shows c.expect.new.forest)) (sym (err_is c.from_residual.result c.in_err-expected.field-0.0 c.from_residual.ensures.1))
+    subst (MakesBound c.args.way m a w (g.F.Forest.shows c.args.forest.now) (g.F.Forest.shows c.expected_of.new.forest)) (sym (err_is c.from_residual.result c.in_err-expected.field-0.0 c.from_residual.ensures.1))
     (record { among = among-fails c.in_err-expected.field-0.0 (c.in_err-expected.ensures.made m a w f).among; known = tt })
 
 pub returns-in_err-expected-clause-keeps : goal.returns-in_err-expected-clause-keeps
-returns-in_err-expected-clause-keeps g c = c.expect.ensures.keeps
+returns-in_err-expected-clause-keeps g c = c.expected_of.ensures.keeps
 
 pub returns-in_err-expected-clause-tables : goal.returns-in_err-expected-clause-tables
-returns-in_err-expected-clause-tables g c =
-    let k = c.requires.followed in
-    let grows = (c.in_err-expected.ensures.made k.process k.chosen k.value k.follows).among.grows in
-    record { sums = c.expect.ensures.sums; discounts = discounts-grow c.args.way c.args.thawed.now.g (g.F.Forest.shows c.args.forest.now) (g.F.Forest.shows c.expect.new.forest) c.args.tables.now.discounts grows c.requires.tables.discounts }
-
-pub returns-in_err-expected-clause-adds : goal.returns-in_err-expected-clause-adds
-returns-in_err-expected-clause-adds g c =
-    let k = c.requires.followed in
-    answers-grow c.requires.adds (c.in_err-expected.ensures.made k.process k.chosen k.value k.follows).among.grows
+returns-in_err-expected-clause-tables g c = c.expected_of.ensures.tables
 
 -- ---- discounting
 
-pub discount_with-requires : goal.discount_with-requires
-discount_with-requires g c =
+pub discount_once-requires : goal.discount_once-requires
+discount_once-requires g c =
     let k = c.requires.followed in
     let s = g.F.Forest.shows c.args.forest.now in
-    let t = g.F.Forest.shows c.expect.new.forest in
+    let t = g.F.Forest.shows c.expected_of.new.forest in
     let made = c.in_ok-expected.ensures.made k.process k.chosen k.value k.follows in
     record {
       known = made.among.ok.knows;
       whole = made.among.ok.whole;
       discount = small-discount c.args.way k.process k.chosen k.value s c.layout.ensures.sound c.args.thawed.now c.args.action c.args.next k.follows;
       values = expected-values c.args.way k.process k.chosen k.value s c.layout.ensures.sound c.args.thawed.now c.args.action c.args.next k.follows t c.in_ok-expected.expected made;
-      table = discounts-grow c.args.way c.args.thawed.now.g s t c.args.tables.now.discounts made.among.grows c.requires.tables.discounts;
+      down = c.expected_of.ensures.tables.down.discounts;
+      up = c.expected_of.ensures.tables.up.discounts;
     }
 
 pub returns-in_err-later-clause-made : goal.returns-in_err-later-clause-made
 returns-in_err-later-clause-made g c = λ m a w f.
-    subst (MakesBound c.args.way m a w (g.F.Forest.shows c.args.forest.now) (g.F.Forest.shows c.discount_with.new.forest)) (sym (err_is c.from_residual-in_err-later.result c.in_err-later.field-0.0 c.from_residual-in_err-later.ensures.1))
+    subst (MakesBound c.args.way m a w (g.F.Forest.shows c.args.forest.now) (g.F.Forest.shows c.discount_once.new.forest)) (sym (err_is c.from_residual-in_err-later.result c.in_err-later.field-0.0 c.from_residual-in_err-later.ensures.1))
     (record {
-      among = among-fails c.in_err-later.field-0.0 (later-made c.args.way m a w (g.F.Forest.shows c.args.forest.now) c.layout.ensures.sound c.args.thawed.now c.args.action c.args.next f (g.F.Forest.shows c.expect.new.forest) c.in_ok-expected.expected (c.in_ok-expected.ensures.made m a w f)
-          (g.F.Forest.shows c.discount_with.new.forest) _ c.in_err-later.ensures.made);
+      among = among-fails c.in_err-later.field-0.0 (later-made c.args.way m a w (g.F.Forest.shows c.args.forest.now) c.layout.ensures.sound c.args.thawed.now c.args.action c.args.next f (g.F.Forest.shows c.expected_of.new.forest) c.in_ok-expected.expected (c.in_ok-expected.ensures.made m a w f)
+          (g.F.Forest.shows c.discount_once.new.forest) _ c.in_err-later.ensures.made);
       known = tt;
     })
 
 pub returns-in_err-later-clause-keeps : goal.returns-in_err-later-clause-keeps
-returns-in_err-later-clause-keeps g c = c.discount_with.ensures.keeps ∙ c.expect.ensures.keeps
+returns-in_err-later-clause-keeps g c = c.discount_once.ensures.keeps ∙ c.expected_of.ensures.keeps
 
 pub returns-in_err-later-clause-tables : goal.returns-in_err-later-clause-tables
-returns-in_err-later-clause-tables g c = record {
-  sums = each-grow c.args.way (length c.args.thawed.now.sizes.items) (g.F.Forest.shows c.expect.new.forest) (g.F.Forest.shows c.discount_with.new.forest) c.expect.new.sums.items c.in_err-later.ensures.made.grows c.expect.ensures.sums;
-  discounts = c.discount_with.ensures.table;
-}
-
-pub returns-in_err-later-clause-adds : goal.returns-in_err-later-clause-adds
-returns-in_err-later-clause-adds g c =
-    let k = c.requires.followed in
-    answers-grow (answers-grow c.requires.adds (c.in_ok-expected.ensures.made k.process k.chosen k.value k.follows).among.grows) c.in_err-later.ensures.made.grows
+returns-in_err-later-clause-tables g c =
+    let t = g.F.Forest.shows c.expected_of.new.forest in
+    let u = g.F.Forest.shows c.discount_once.new.forest in
+    let held = all-grow (length c.args.thawed.now.sizes.items) c.args.thawed.now.g t u c.expected_of.new.tables c.in_err-later.ensures.made.grows c.expected_of.ensures.tables in
+    record {
+      next = held.next;
+      down = record { sums = held.down.sums; discounts = c.discount_once.ensures.down };
+      up = record { sums = held.up.sums; discounts = c.discount_once.ensures.up };
+      adds = held.adds;
+    }
 
 -- ---- adding the reward
 
@@ -84,8 +79,8 @@ pub apply-requires : goal.apply-requires
 apply-requires g c =
     let k = c.requires.followed in
     let s = g.F.Forest.shows c.args.forest.now in
-    let t = g.F.Forest.shows c.expect.new.forest in
-    let u = g.F.Forest.shows c.discount_with.new.forest in
+    let t = g.F.Forest.shows c.expected_of.new.forest in
+    let u = g.F.Forest.shows c.discount_once.new.forest in
     let made = c.in_ok-expected.ensures.made k.process k.chosen k.value k.follows in
     let reward = reward-here c.args.way k.process k.chosen k.value s c.layout.ensures.sound c.args.thawed.now c.args.action c.args.next k.follows t c.in_ok-expected.expected made u c.in_ok-later.later c.in_ok-later.ensures.made c.index-reward.result.now c.index-reward.ensures in
     record {
@@ -94,22 +89,28 @@ apply-requires g c =
       left_whole = reward.whole;
       right_whole = c.in_ok-later.ensures.made.ok.whole;
       fit = bound-fits c.args.way k.process k.chosen k.value s c.layout.ensures.sound c.args.thawed.now c.args.action c.args.next k.follows t c.in_ok-expected.expected made u c.in_ok-later.later c.in_ok-later.ensures.made c.index-reward.result.now c.index-reward.ensures;
-      memo = answers-grow (answers-grow c.requires.adds made.among.grows) c.in_ok-later.ensures.made.grows;
+      memo = answers-grow c.expected_of.ensures.tables.adds c.in_ok-later.ensures.made.grows;
     }
 
 pub returns-clause-made : goal.returns-clause-made
 returns-clause-made g c = λ m a w f.
-    bound-made c.args.way m a w (g.F.Forest.shows c.args.forest.now) c.layout.ensures.sound c.args.thawed.now c.args.action c.args.next f (g.F.Forest.shows c.expect.new.forest) c.in_ok-expected.expected (c.in_ok-expected.ensures.made m a w f)
-    (g.F.Forest.shows c.discount_with.new.forest) c.in_ok-later.later c.in_ok-later.ensures.made c.index-reward.result.now c.index-reward.ensures (g.F.Forest.shows c.apply.new.forest) c.apply.result c.apply.ensures.made
+    bound-made c.args.way m a w (g.F.Forest.shows c.args.forest.now) c.layout.ensures.sound c.args.thawed.now c.args.action c.args.next f (g.F.Forest.shows c.expected_of.new.forest) c.in_ok-expected.expected (c.in_ok-expected.ensures.made m a w f)
+    (g.F.Forest.shows c.discount_once.new.forest) c.in_ok-later.later c.in_ok-later.ensures.made c.index-reward.result.now c.index-reward.ensures (g.F.Forest.shows c.apply.new.forest) c.apply.result c.apply.ensures.made
 
 pub returns-clause-keeps : goal.returns-clause-keeps
-returns-clause-keeps g c = c.apply.ensures.keeps ∙ c.discount_with.ensures.keeps ∙ c.expect.ensures.keeps
+returns-clause-keeps g c = c.apply.ensures.keeps ∙ c.discount_once.ensures.keeps ∙ c.expected_of.ensures.keeps
 
 pub returns-clause-tables : goal.returns-clause-tables
-returns-clause-tables g c = record {
-  sums = each-grow c.args.way (length c.args.thawed.now.sizes.items) (g.F.Forest.shows c.expect.new.forest) (g.F.Forest.shows c.apply.new.forest) c.expect.new.sums.items (grows-then c.in_ok-later.ensures.made.grows c.apply.ensures.made.grows) c.expect.ensures.sums;
-  discounts = discounts-grow c.args.way c.args.thawed.now.g (g.F.Forest.shows c.discount_with.new.forest) (g.F.Forest.shows c.apply.new.forest) c.discount_with.new.table c.apply.ensures.made.grows c.discount_with.ensures.table;
-}
-
-pub returns-clause-adds : goal.returns-clause-adds
-returns-clause-adds g c = c.apply.ensures.memo
+returns-clause-tables g c =
+    let t = g.F.Forest.shows c.expected_of.new.forest in
+    let u = g.F.Forest.shows c.discount_once.new.forest in
+    let v = g.F.Forest.shows c.apply.new.forest in
+    let later = c.in_ok-later.ensures.made.grows in
+    let last = c.apply.ensures.made.grows in
+    let held = all-grow (length c.args.thawed.now.sizes.items) c.args.thawed.now.g t v c.expected_of.new.tables (grows-then later last) c.expected_of.ensures.tables in
+    record {
+      next = held.next;
+      down = record { sums = held.down.sums; discounts = discounts-grow Down c.args.thawed.now.g u v c.discount_once.new.down last c.discount_once.ensures.down };
+      up = record { sums = held.up.sums; discounts = discounts-grow Up c.args.thawed.now.g u v c.discount_once.new.up last c.discount_once.ensures.up };
+      adds = c.apply.ensures.memo;
+    }

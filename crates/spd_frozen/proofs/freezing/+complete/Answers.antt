@@ -1,10 +1,9 @@
 use Rattle.std.proofs.Common.{rules, arith, ◌≡◌, ◌+◌, ◌*◌, ◌-◌, ◌<◌, ◌≤◌, ℕ, List, true, sym, ◌∙◌, ap, subst, refl}
 use Rattle.std.proofs.lemmas.Result.{IfOk-weaker}
 use Rattle.spd_model.specs.Reduced.{Node}
-use Rattle.spd_nodes.specs.declared.leaf.Leaf.{Leaf}
 use Rattle.spd_nodes.specs.Levels.{slots, slot_of, after, IsTestOf}
 use Rattle.spd_nodes.specs.Shown.{IsSound, IsWhole}
-use Rattle.spd_nodes.specs.Trees.{tree_rank, IsAt}
+use Rattle.spd_nodes.specs.Trees.{tree_rank}
 use Rattle.spd_frozen.specs.Mixed.{all_slotted, slotted}
 use Rattle.spd_frozen.specs.inner.Completed.{slot_diagram, IsRoot, HoldsNodes, IsCompleted, IsNext}
 use Rattle.spd_frozen.proofs.KidLaws.{some-tests}

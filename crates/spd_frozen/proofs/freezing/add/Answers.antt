@@ -1,8 +1,6 @@
-use Rattle.std.proofs.Common.{◌≡◌, ℕ, List, true, false, inl, inr, refl, sym, ◌∙◌, ap, subst, map, ◌++◌, ◌∷◌, []}
+use Rattle.std.proofs.Common.{◌≡◌, ℕ, inr, sym, ◌∙◌, ap, subst, ◌++◌, ◌∷◌, []}
 use Rattle.std.proofs.lemmas.List.{map-append}
 use Rattle.std.proofs.lemmas.Result.{IfOk-weaker}
-use Rattle.spd_model.specs.Reduced.{Node}
-use Rattle.spd_nodes.specs.declared.leaf.Leaf.{Leaf}
 use Rattle.spd_frozen.specs.Mixed.{all_slotted, slotted}
 use Rattle.spd_frozen.specs.inner.Completed.{AddsNode}
 use Rattle.spd_frozen.proofs.FreezeLaws.{inserted}

@@ -1,10 +1,8 @@
-use Rattle.std.proofs.Common.{rules, arith, ◌≡◌, ◌+◌, ◌-◌, ◌*◌, ◌<◌, ◌≤◌, ℕ, List, length, map, take, get_or, sym, ◌∙◌, ap, subst, Ok, Err, Result, Some}
+use Rattle.std.proofs.Common.{rules, arith, ◌≡◌, ◌+◌, ◌-◌, ◌*◌, ◌<◌, ◌≤◌, ℕ, List, length, map, take, get_or, sym, ◌∙◌, ap, subst, Ok, Err, Some}
 use Rattle.std.proofs.lemmas.Bool.Decides.{nat_tests}
 use Rattle.std.proofs.lemmas.List.{length-map}
 use Rattle.std.proofs.lemmas.Option.{slice_get-get_or}
 use Rattle.spd_model.specs.Reduced.{Node}
-use Rattle.spd_cons_core.specs.declared.key.Entry.{Entry}
-use Rattle.spd_nodes.specs.declared.forest.StoreFault.{StoreFault}
 use Rattle.spd_nodes.specs.declared.leaf.Leaf.{Leaf}
 use Rattle.spd_nodes.specs.Levels.{levels_of, slots, slot_of}
 use Rattle.spd_nodes.specs.Shown.{IsSound, KnowsAs, MakesTree}
@@ -12,7 +10,7 @@ use Rattle.spd_nodes.specs.Trees.{Tree, Ends, join}
 use Rattle.spd_nodes.proofs.CallerLemmas.{makes_tree-known}
 use Rattle.spd_frozen.specs.Fits.{FitsSizes}
 use Rattle.spd_frozen.specs.inner.Thawed.{node_tree, node_at, node_kids, node_slot, kid_trees, tests_from, HasMade}
-use Rattle.spd_frozen.proofs.MakeLaws.{IsBranch, seen-at, seen-long, branch-is, leaf-tree, branch-tree, has-grows, has-set, has-after, small, smaller, kid-fails, kid-last, rest-fails, kid-known, test-level, test-fits, test-then, levels-few}
+use Rattle.spd_frozen.proofs.MakeLaws.{seen-at, seen-long, branch-is, leaf-tree, branch-tree, has-grows, has-set, has-after, small, smaller, kid-fails, rest-fails, test-level, test-fits, test-then, levels-few}
 use Rattle.spd_frozen.proofs.thawing.+make.Goals as goal
 
 pub make-returns-in-Some-clause-made : goal.make-returns-in-Some-clause-made

@@ -1,4 +1,4 @@
-use Rattle.std.proofs.Common.{◌≡◌, ◌-◌, ℕ, List, length, map, subst, ap, sym}
+use Rattle.std.proofs.Common.{◌≡◌, ◌-◌, ℕ, length, map, subst, sym}
 use Rattle.std.proofs.lemmas.List.{length-map}
 use Rattle.spd_nodes.specs.Levels.{slots}
 use Rattle.spd_nodes.specs.Shown.{MakesTree}

@@ -5,9 +5,9 @@ use Rattle.spd_model.specs.Numbers.{numbers_below}
 use Rattle.spd_model.specs.States.{sizes, state_count}
 use Rattle.spd_model.proofs.CallerLemmas.Finds.{find_map_here, find_map_more}
 use Rattle.spd_model.proofs.CallerLemmas.Lists.{length-numbers_below, get_or-numbers_below}
-use Rattle.spd_model.proofs.CallerLemmas.StateOrder.{sizes_some}
+use Rattle.spd_model.proofs.CallerLemmas.StateOrder.{next_product, size_read, sizes_some}
 use Rattle.spd_plain.specs.Space.{state_limit}
-use Rattle.spd_plain.proofs.Products.{next_product, state_count-take-le, size_read, lt_holds, lt_fails}
+use Rattle.spd_plain.proofs.Products.{state_count-take-le, lt_holds, lt_fails}
 use Rattle.spd_plain.proofs.space.count_states.Goals as goal
 
 pub returns-then-count-gt-STATE_LIMIT-clause-passed : goal.returns-then-count-gt-STATE_LIMIT-clause-passed

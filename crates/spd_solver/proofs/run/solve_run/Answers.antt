@@ -5,31 +5,31 @@ use Rattle.spd_solver.proofs.run.solve_run.Goals as goal
 
 pub returns-in-Ok-clause-headline : goal.returns-in-Ok-clause-headline
 returns-in-Ok-clause-headline g c =
-    headline c.args.words.now c.in-Ok.field-0.file.now c.in-Ok.field-0.options c.solve.result c.ended.result
+    headline c.args.words.now c.in-Ok.field-0.way c.in-Ok.field-0.file.now c.in-Ok.field-0.options c.solve.result c.ended.result
     (seen g.P.Place.inputs g.K.Sink.taken g.K.Sink.faults c.args.place.now c.args.out.now) (seen g.P.Place.inputs g.K.Sink.taken g.K.Sink.faults c.solve.new.place c.solve.new.out)
     c.ended.ensures c.in-Ok.ensures.job c.solve.ensures.answers
 
 pub returns-in-Ok-clause-means : goal.returns-in-Ok-clause-means
 returns-in-Ok-clause-means g c =
-    means c.args.words.now c.in-Ok.field-0.file.now c.in-Ok.field-0.options c.solve.result c.ended.result
+    means c.args.words.now c.in-Ok.field-0.way c.in-Ok.field-0.file.now c.in-Ok.field-0.options c.solve.result c.ended.result
     (seen g.P.Place.inputs g.K.Sink.taken g.K.Sink.faults c.args.place.now c.args.out.now) (seen g.P.Place.inputs g.K.Sink.taken g.K.Sink.faults c.solve.new.place c.solve.new.out)
     c.ended.ensures c.in-Ok.ensures.job c.solve.ensures.answers
 
 pub returns-in-Ok-clause-complete : goal.returns-in-Ok-clause-complete
 returns-in-Ok-clause-complete g c =
-    completes c.args.words.now c.in-Ok.field-0.file.now c.in-Ok.field-0.options c.solve.result c.ended.result
+    completes c.args.words.now c.in-Ok.field-0.way c.in-Ok.field-0.file.now c.in-Ok.field-0.options c.solve.result c.ended.result
     (seen g.P.Place.inputs g.K.Sink.taken g.K.Sink.faults c.args.place.now c.args.out.now) (seen g.P.Place.inputs g.K.Sink.taken g.K.Sink.faults c.solve.new.place c.solve.new.out)
     c.ended.ensures c.in-Ok.ensures.job c.solve.ensures.answers
 
 pub returns-in-Ok-clause-refused : goal.returns-in-Ok-clause-refused
 returns-in-Ok-clause-refused g c =
-    tells c.args.words.now c.in-Ok.field-0.file.now c.in-Ok.field-0.options c.solve.result c.ended.result
+    tells c.args.words.now c.in-Ok.field-0.way c.in-Ok.field-0.file.now c.in-Ok.field-0.options c.solve.result c.ended.result
     (seen g.P.Place.inputs g.K.Sink.taken g.K.Sink.faults c.args.place.now c.args.out.now) (seen g.P.Place.inputs g.K.Sink.taken g.K.Sink.faults c.solve.new.place c.solve.new.out)
     c.ended.ensures c.in-Ok.ensures.job c.solve.ensures.answers
 
 pub returns-in-Ok-clause-usage : goal.returns-in-Ok-clause-usage
 returns-in-Ok-clause-usage g c =
-    runs c.args.words.now c.in-Ok.field-0.file.now c.in-Ok.field-0.options c.solve.result c.ended.result
+    runs c.args.words.now c.in-Ok.field-0.way c.in-Ok.field-0.file.now c.in-Ok.field-0.options c.solve.result c.ended.result
     (seen g.P.Place.inputs g.K.Sink.taken g.K.Sink.faults c.args.place.now c.args.out.now) (seen g.P.Place.inputs g.K.Sink.taken g.K.Sink.faults c.solve.new.place c.solve.new.out)
     c.ended.ensures c.in-Ok.ensures.job c.solve.ensures.answers
 
@@ -39,7 +39,7 @@ returns-in-Ok-clause-idle g c = λ word wrong. absurd (c.in-Ok.ensures.job.right
 pub returns-in-Ok-clause-asked : goal.returns-in-Ok-clause-asked
 returns-in-Ok-clause-asked g c = λ name not.
     let job = c.in-Ok.ensures.job in
-    c.solve.ensures.asked name (λ is. not (solving job.way c.in-Ok.field-0.file.now c.in-Ok.field-0.options) job.asked is)
+    c.solve.ensures.asked name (λ is. not (solving c.in-Ok.field-0.way c.in-Ok.field-0.file.now c.in-Ok.field-0.options) job.asked is)
 
 pub returns-in-Err-clause-headline : goal.returns-in-Err-clause-headline
 returns-in-Err-clause-headline g c = λ command asked. absurd (c.in-Err.ensures.usage.nothing command asked)

@@ -3,18 +3,18 @@ use Rattle.spd_model.specs.Lawful.{IsLawful}
 use Rattle.spd_model.proofs.CallerLemmas.Validity.{is_valid}
 use Rattle.spd_build.specs.Functions.{reward}
 use Rattle.spd_nodes.proofs.CallerLemmas.{stand-known}
-use Rattle.spd_stage_rows.proofs.BuiltLaws.{weights-fit, rewards-fit-sizes}
+use Rattle.spd_backup.proofs.CallerLemmas.{built-rewards-fit, built-weights-fit}
 use Rattle.spd_stage_rows.proofs.prepared.prepared.Goals as goal
 
 pub thaw_built-requires-clause-weights : goal.thaw_built-requires-clause-weights
 thaw_built-requires-clause-weights g c =
     let b = c.in-Ok.ensures.built in
-    weights-fit (g.F.Forest.shows c.build.new.forest) b.made.sound c.args.model.now (b.made.grows.sizes ∙ c.requires.layout) c.in-Ok.built b.ok.parts
+    built-weights-fit (g.F.Forest.shows c.build.new.forest) b.made.sound c.args.model.now (b.made.grows.sizes ∙ c.requires.layout) c.in-Ok.built b.ok.parts
 
 pub thaw_built-requires-clause-rewards : goal.thaw_built-requires-clause-rewards
 thaw_built-requires-clause-rewards g c =
     let b = c.in-Ok.ensures.built in
-    rewards-fit-sizes (g.F.Forest.shows c.build.new.forest) b.made.sound c.args.model.now (b.made.grows.sizes ∙ c.requires.layout) c.in-Ok.built b.ok.parts
+    built-rewards-fit (g.F.Forest.shows c.build.new.forest) b.made.sound c.args.model.now (b.made.grows.sizes ∙ c.requires.layout) c.in-Ok.built b.ok.parts
 
 pub returns-in-Ok-thaw_built-clause-thawed : goal.returns-in-Ok-thaw_built-clause-thawed
 returns-in-Ok-thaw_built-clause-thawed g c =

@@ -2,7 +2,6 @@ use Rattle.std.proofs.Common.{◌++◌, ℤ, decimal, refl, ap, rules, append_as
 use Rattle.std.specs.Prelude.{FitsSigned}
 use Rattle.std.specs.Int.{w128}
 use Rattle.std.proofs.lemmas.Int.{to_z-of_z}
-use Rattle.hex.specs.Hex.{encode_lower}
 use Rattle.spd_model.specs.ResultText.{units, why_text, state_words}
 use Rattle.spd_text.specs.inner.Pieces.{spaced}
 use Rattle.spd_text.specs.inner.Parts.{head_text, end_text}
@@ -13,7 +12,7 @@ pub returns-in_err-put_head : goal.returns-in_err-put_head
 returns-in_err-put_head g c =
     let x = c.args.iterate.now in
     let m = c.args.model.now in
-    let head = head_text (encode_lower c.args.digest.now) (why_text c.args.why) (decimal x.turn) (units x.residual.r) in
+    let head = head_text (why_text c.args.why) (decimal x.turn) (units x.residual.r) in
     let state = spaced (state_words m x.residual.at) in
     let end' = end_text m x.residual x.error in
     writes-exit _ _ _ _ _ head _ (state ++ end') _ _ c.from_residual.ensures.0 (append_assoc head state end') c.in_err-put_head.ensures
@@ -22,7 +21,7 @@ pub returns-in_err-put_state : goal.returns-in_err-put_state
 returns-in_err-put_state g c =
     let x = c.args.iterate.now in
     let m = c.args.model.now in
-    let head = head_text (encode_lower c.args.digest.now) (why_text c.args.why) (decimal x.turn) (units x.residual.r) in
+    let head = head_text (why_text c.args.why) (decimal x.turn) (units x.residual.r) in
     let state = spaced (state_words m x.residual.at) in
     writes-exit _ _ _ _ _ (head ++ state) _ (end_text m x.residual x.error) _ _ c.from_residual-in_err-put_state.ensures.0 refl
     (writes-then _ _ _ _ _ _ _ _ _ _ c.in_ok-put_head.ensures c.in_err-put_state.ensures)
@@ -31,7 +30,7 @@ pub returns : goal.returns
 returns g c =
     let x = c.args.iterate.now in
     let m = c.args.model.now in
-    let head = head_text (encode_lower c.args.digest.now) (why_text c.args.why) (decimal x.turn) (units x.residual.r) in
+    let head = head_text (why_text c.args.why) (decimal x.turn) (units x.residual.r) in
     let state = spaced (state_words m x.residual.at) in
     let fits : FitsSigned w128 x.error = search rules in
     writes-as _ _ _ _ _ _ _ (ap (λ (error : ℤ). (head ++ state) ++ end_text m x.residual error) (to_z-of_z w128 x.error fits))

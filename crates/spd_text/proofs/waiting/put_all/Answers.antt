@@ -1,6 +1,7 @@
 use Rattle.std.proofs.Common.{◌++◌, ◌+◌, take, drop, get_or}
-use Rattle.spd_text.specs.inner.Pieces.{text_of_pieces}
-use Rattle.spd_text.proofs.TextLaws.{pieces-more, pieces-split, pieces-all, no_piece}
+use Rattle.spd_edge.specs.Pieces.{text_of_pieces}
+use Rattle.spd_edge.proofs.CallerLemmas.{pieces-all, pieces-more}
+use Rattle.spd_text.proofs.TextLaws.{pieces-split, no_piece}
 use Rattle.spd_text.proofs.WritingLaws.{writes-nothing, writes-then, writes-as, writes-exit}
 use Rattle.spd_text.proofs.waiting.put_all.Goals as goal
 

@@ -1,6 +1,7 @@
 use Rattle.std.proofs.Common.{take, Ok}
 use Rattle.spd_edge.specs.declared.outside.Failed.{Failed}
-use Rattle.spd_text.specs.inner.Pieces.{shown, text_of_pieces, Writes}
+use Rattle.spd_edge.specs.Pieces.{text_of_pieces}
+use Rattle.spd_text.specs.inner.Pieces.{shown, Writes}
 use Rattle.spd_text.proofs.waiting.put_all.Given as goal
 
 abbrev pub invariant-loop-piece : goal.invariant-loop-piece

@@ -4,9 +4,10 @@ use Rattle.std.specs.Arc.{arc_value}
 use Rattle.spd_scaled.specs.Scaled.{IsWithin}
 use Rattle.spd_model.specs.Lawful.{IsLawful}
 use Rattle.spd_model.specs.Turns.{rule_at}
+use Rattle.spd_model.proofs.CallerLemmas.Results.{err_is}
 use Rattle.spd_frozen.specs.declared.iterate.Iterate.{Iterate}
 use Rattle.spd_build.specs.Built.{frozen_numbers}
-use Rattle.spd_turn.specs.Runs.{RunValue}
+use Rattle.spd_turn.specs.Runs.{RunValue, IsFaultOf, AnswersRun}
 use Rattle.spd_turn.specs.Turn.{value_of_turn}
 use Rattle.spd_turn.proofs.RunLaws.{one-more, rule-told, run-from, run-within, told-fits}
 use Rattle.spd_turn.proofs.running.Run.advance.Goals as goal
@@ -48,6 +49,44 @@ make_turn-requires-clause-value g c κs within =
     let now : c.deref-2.result.now.turn ≡ r.iterate.turn = ap (λ (x : Iterate). x.turn) c.deref-2.ensures in
     let up : suc r.iterate.turn ≡ c.deref-2.result.now.turn + 1 = omega (arith, now) in
     c.self.invariant.next ∙ ap (λ n. frozen_numbers r.process (value_of_turn r.process r.options.span n)) up
+
+pub returns-in_err-finished : goal.returns-in_err-finished
+returns-in_err-finished g c =
+    let r : RunValue = record { process = c.self.inside.model.now; built = c.self.inside.built.now; options = c.self.inside.options; iterate = arc_value c.self.inside.iterate; next = c.self.inside.next; table = c.self.inside.cons; seat = c.self.inside.seat } in
+    let law : IsLawful c.self.inside.model.now = subst IsLawful c.model.view_is c.model.invariant in
+    let fits = told-fits r c.deref.result.now law c.self.invariant c.deref.ensures in
+    let rule : c.is_done.result ≡ rule_at r.process r.options.span r.iterate.turn = rule-told r c.deref.result.now c.self.invariant c.deref.ensures (to_z w128 (of_z w128 c.deref.result.now.residual.r)) fits c.is_done.result c.is_done.ensures in
+    let no : rule_at r.process r.options.span r.iterate.turn ≡ false = sym rule ∙ c.if-is_done.false in
+    let now : c.deref-2.result.now.turn ≡ r.iterate.turn = ap (λ (x : Iterate). x.turn) c.deref-2.ensures in
+    let i = c.self.invariant in
+    let less : r.iterate.turn < r.options.turns = omega (arith, i.within, now, c.if-turn-self.false) in
+    let e = c.in_err-finished.field-0.0 in
+    let own : IsFaultOf r.process r.options.span r.options.nodes (r.iterate.turn + 1) e =
+    subst (λ n. IsFaultOf r.process r.options.span r.options.nodes (n + 1) e) now c.in_err-finished.ensures.fault in
+    subst (λ a. AnswersRun c.args.self.now c.args.self.now a) (sym (err_is c.from_residual.result e c.from_residual.ensures.1))
+    (
+      refl,
+      subst (λ (r : RunValue). rule_at r.process r.options.span r.iterate.turn ≡ false) c.self.view_is no,
+      subst (λ (r : RunValue). r.iterate.turn < r.options.turns) c.self.view_is less,
+      subst (λ (r : RunValue). IsFaultOf r.process r.options.span r.options.nodes (r.iterate.turn + 1) e) c.self.view_is own,
+    )
+
+pub returns-in-Err : goal.returns-in-Err
+returns-in-Err g c =
+    let r : RunValue = record { process = c.self.inside.model.now; built = c.self.inside.built.now; options = c.self.inside.options; iterate = arc_value c.self.inside.iterate; next = c.self.inside.next; table = c.self.inside.cons; seat = c.self.inside.seat } in
+    let law : IsLawful c.self.inside.model.now = subst IsLawful c.model.view_is c.model.invariant in
+    let fits = told-fits r c.deref.result.now law c.self.invariant c.deref.ensures in
+    let rule : c.is_done.result ≡ rule_at r.process r.options.span r.iterate.turn = rule-told r c.deref.result.now c.self.invariant c.deref.ensures (to_z w128 (of_z w128 c.deref.result.now.residual.r)) fits c.is_done.result c.is_done.ensures in
+    let no : rule_at r.process r.options.span r.iterate.turn ≡ false = sym rule ∙ c.if-is_done.false in
+    let now : c.deref-2.result.now.turn ≡ r.iterate.turn = ap (λ (x : Iterate). x.turn) c.deref-2.ensures in
+    let i = c.self.invariant in
+    let less : r.iterate.turn < r.options.turns = omega (arith, i.within, now, c.if-turn-self.false) in
+    (
+      refl,
+      subst (λ (r : RunValue). rule_at r.process r.options.span r.iterate.turn ≡ false) c.self.view_is no,
+      subst (λ (r : RunValue). r.iterate.turn < r.options.turns) c.self.view_is less,
+      tt,
+    )
 
 pub invariant_of-self : goal.invariant_of-self
 invariant_of-self g c =

@@ -1,0 +1,12 @@
+pub mod WordLaws
+pub mod NumberLaws
+pub mod UnitLaws
+pub mod DigestLaws
+pub mod NameLaws
+pub mod LineLaws
+pub mod PlaceLaws
+pub mod KidLaws
+pub mod NodeLaws
+pub mod CertLaws
+pub mod Loops
+pub mod NamingLaws

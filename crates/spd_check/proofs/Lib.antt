@@ -1,0 +1,12 @@
+mod CheckLaws
+mod CountLaws
+mod FirstLaws
+mod GapLaws
+mod GivenLaws
+mod HighestLaws
+mod JudgeLaws
+mod ListLaws
+mod OrderLaws
+mod OwnLaws
+mod Rows
+mod VerdictLaws

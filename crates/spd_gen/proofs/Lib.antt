@@ -1,0 +1,4 @@
+pub mod WritingLaws
+pub mod TextLaws
+pub mod ValidLaws
+pub mod LawfulLaws

@@ -1,0 +1,4 @@
+use Rattle.spd_solver.proofs.diagrams.build_model.Given as goal
+
+abbrev pub ghosts-build_in : goal.ghosts-build_in
+ghosts-build_in a = record { name = a.blank.name; parts = a.blank.parts }

@@ -1,0 +1,4 @@
+mod NumberLaws
+mod StageLaws
+mod StartLaws
+mod WeightLaws

@@ -1,0 +1,8 @@
+use Rattle.std.proofs.Common.{◌≡◌}
+use Rattle.spd_wide_rows.proofs.stages.check_bound.Given as goal
+
+abbrev pub invariant-loop-level : goal.invariant-loop-level
+invariant-loop-level g l = g.F.Forest.shows l.forest ≡ g.F.Forest.shows l.fn.forest
+
+abbrev pub invariant-loop-next : goal.invariant-loop-next
+invariant-loop-next g l = g.F.Forest.shows l.forest ≡ g.F.Forest.shows l.fn.forest
