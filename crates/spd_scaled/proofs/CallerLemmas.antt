@@ -3,4 +3,7 @@ pub mod Ring
 pub mod DivisionLaws
 pub mod Magnitude
 pub mod UnitsLaws
-pub use Rattle.spd_scaled.proofs.DecimalParts.{AllDigits-list_all, digits_value_after-step}
+pub use Rattle.spd_scaled.proofs.DecimalParts.{AllDigits-list_all, digits_value_after-step, list_all-AllDigits}
+pub use Rattle.spd_scaled.proofs.DecimalText.{decimal_of-every}
+pub use Rattle.spd_scaled.proofs.DecimalUnits.{units_from-AreUnits}
+pub use Rattle.spd_scaled.proofs.ReadBack.{read_back}
