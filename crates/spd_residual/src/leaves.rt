@@ -89,12 +89,7 @@ pub fn leaf_at<F: Forest>(forest: &mut F, r: Ref, state: &State) -> Leaf
 }
 
 /// The number of the first action whose upper bound has a leaf at a state, or the number of all actions where none has it.
-pub fn first_upper<F: Forest>(
-    forest: &mut F,
-    bounds: &[Bounds],
-    leaf: Leaf,
-    state: &State,
-) -> u32
+pub fn first_upper<F: Forest>(forest: &mut F, bounds: &[Bounds], leaf: Leaf, state: &State) -> u32
     requires known { All (λ b. (F.shows forest.old).knows b.hi ≡ true) bounds.now }
     requires few { length bounds.now ≤ 64 }
     requires state { IsState (F.shows forest.old).sizes state.now }

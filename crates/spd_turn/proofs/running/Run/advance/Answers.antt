@@ -63,8 +63,7 @@ returns-in_err-finished g c =
     let e = c.in_err-finished.field-0.0 in
     let own : IsFaultOf r.process r.options.span r.options.nodes (r.iterate.turn + 1) e =
     subst (λ n. IsFaultOf r.process r.options.span r.options.nodes (n + 1) e) now c.in_err-finished.ensures.fault in
-    subst (λ a. AnswersRun c.args.self.now c.args.self.now a) (sym (err_is c.from_residual.result e c.from_residual.ensures.1))
-    (
+    subst (λ a. AnswersRun c.args.self.now c.args.self.now a) (sym (err_is c.from_residual.result e c.from_residual.ensures.1)) (
       refl,
       subst (λ (r : RunValue). rule_at r.process r.options.span r.iterate.turn ≡ false) c.self.view_is no,
       subst (λ (r : RunValue). r.iterate.turn < r.options.turns) c.self.view_is less,
@@ -80,8 +79,7 @@ returns-in-Err g c =
     let no : rule_at r.process r.options.span r.iterate.turn ≡ false = sym rule ∙ c.if-is_done.false in
     let now : c.deref-2.result.now.turn ≡ r.iterate.turn = ap (λ (x : Iterate). x.turn) c.deref-2.ensures in
     let i = c.self.invariant in
-    let less : r.iterate.turn < r.options.turns = omega (arith, i.within, now, c.if-turn-self.false) in
-    (
+    let less : r.iterate.turn < r.options.turns = omega (arith, i.within, now, c.if-turn-self.false) in (
       refl,
       subst (λ (r : RunValue). rule_at r.process r.options.span r.iterate.turn ≡ false) c.self.view_is no,
       subst (λ (r : RunValue). r.iterate.turn < r.options.turns) c.self.view_is less,
