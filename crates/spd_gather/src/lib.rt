@@ -11,7 +11,7 @@ pub mod make;
 pub mod rule;
 pub mod table;
 
-pub use halves::{halves_of, lowest_level};
+pub use halves::{Sides, split};
 pub use make::make_list;
 pub use rule::{ListPlan, ListRule};
 pub use table::Table;

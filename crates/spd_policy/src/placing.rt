@@ -9,7 +9,7 @@ ghost use Rattle.spd_policy.specs.Best.{greatest_of, policy_by, IsNumeric};
 ghost use Rattle.spd_policy.specs.Choosing.{place_leaf, MayCompare, IsDecided, IsLike, HoldsPlaces};
 
 use spd_apply::OpFault;
-use spd_gather::{ListPlan, ListRule, Table, halves_of, lowest_level, make_list};
+use spd_gather::{ListPlan, ListRule, Table, make_list, split};
 use spd_nodes::{Forest, Leaf, Ref, Steps};
 use std::alloc::{AllocError, Global};
 use std::sync::ledger::Ledger;
@@ -80,13 +80,17 @@ impl ListRule for Placing {
         if list.len() > 1 && list[1] == list[0] {
             return Ok(ListPlan::Bottom);
         }
-        match lowest_level(forest, list) {
+        let mut sides = split(alloc, forest, list)?;
+        match sides.low {
             None => Ok(ListPlan::Bottom),
             Some(level) => {
-                let (mut yes, mut no) = halves_of(alloc, forest, list, level)?;
-                cut(&mut yes);
-                cut(&mut no);
-                Ok(ListPlan::Test { level, yes, no })
+                cut(&mut sides.yes);
+                cut(&mut sides.no);
+                Ok(ListPlan::Test {
+                    level,
+                    yes: sides.yes,
+                    no: sides.no,
+                })
             }
         }
     }
