@@ -6,8 +6,9 @@ ghost use Rattle.spd_nodes.specs.Shown.{Shown, IsViewOf};
 ghost use Rattle.spd_apply.specs.Halves.{yes_at, no_at};
 ghost use Rattle.spd_gather.specs.Lists.{trees_of, AreKnown, IsBefore, IsSame, IsLowOf, IsSplit};
 
+use crate::pool::Pool;
 use spd_nodes::{Forest, Level, Ref, View};
-use std::alloc::{AllocError, Global};
+use std::alloc::AllocError;
 
 /// The Refs of a list on both sides of the lowest level that one of them tests.
 #[derive(Drop)]
@@ -129,7 +130,7 @@ impl Sides {
 }
 
 /// The Refs of a list on both sides of their lowest level. A Ref that is one of the two before it isn't viewed again.
-pub fn split<F: Forest>(alloc: Global, forest: &mut F, list: &[Ref]) -> Result<Sides, AllocError>
+pub fn split<F: Forest>(forest: &mut F, list: &[Ref], pool: &mut Pool) -> Result<Sides, AllocError>
     requires known { AreKnown (F.shows forest.old) list.now }
     ensures same { F.shows forest.new ≡ F.shows forest.old }
     ensures keeps { F.kept forest.new ≡ F.kept forest.old }
@@ -141,8 +142,8 @@ pub fn split<F: Forest>(alloc: Global, forest: &mut F, list: &[Ref]) -> Result<S
 {
     let mut sides = Sides {
         low: None,
-        yes: Vec::with_capacity(alloc, list.len())?,
-        no: Vec::with_capacity(alloc, list.len())?,
+        yes: pool.take(),
+        no: pool.take(),
     };
     for i in 0..list.len() {
         let name = list[i];

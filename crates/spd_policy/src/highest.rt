@@ -12,7 +12,7 @@ ghost use Rattle.spd_policy.specs.Best.{greatest_of, IsNumeric};
 ghost use Rattle.spd_policy.specs.Choosing.{greatest_leaf, AreOne, MayCompare, HoldsGreatest};
 
 use spd_apply::OpFault;
-use spd_gather::{ListPlan, ListRule, Table, make_list, split};
+use spd_gather::{ListPlan, ListRule, Pool, Table, make_list, split};
 use spd_nodes::{Forest, Leaf, Ref, Steps, View};
 use std::alloc::{AllocError, Global};
 use std::sync::ledger::Ledger;
@@ -89,13 +89,17 @@ impl ListRule for Highest {
 
     fn plan<F: Forest>(
         &self,
-        alloc: Global,
         forest: &mut F,
         list: &[Ref],
+        pool: &mut Pool,
     ) -> Result<ListPlan, AllocError> {
-        let sides = split(alloc, forest, list)?;
+        let sides = split(forest, list, pool)?;
         match sides.low {
-            None => Ok(ListPlan::Bottom),
+            None => {
+                pool.give(sides.yes);
+                pool.give(sides.no);
+                Ok(ListPlan::Bottom)
+            }
             Some(level) => Ok(ListPlan::Test {
                 level,
                 yes: sides.yes,

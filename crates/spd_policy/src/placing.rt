@@ -9,7 +9,7 @@ ghost use Rattle.spd_policy.specs.Best.{greatest_of, policy_by, IsNumeric};
 ghost use Rattle.spd_policy.specs.Choosing.{place_leaf, MayCompare, IsDecided, IsLike, HoldsPlaces};
 
 use spd_apply::OpFault;
-use spd_gather::{ListPlan, ListRule, Table, make_list, split};
+use spd_gather::{ListPlan, ListRule, Pool, Table, make_list, split};
 use spd_nodes::{Forest, Leaf, Ref, Steps};
 use std::alloc::{AllocError, Global};
 use std::sync::ledger::Ledger;
@@ -73,16 +73,20 @@ impl ListRule for Placing {
 
     fn plan<F: Forest>(
         &self,
-        alloc: Global,
         forest: &mut F,
         list: &[Ref],
+        pool: &mut Pool,
     ) -> Result<ListPlan, AllocError> {
         if list.len() > 1 && list[1] == list[0] {
             return Ok(ListPlan::Bottom);
         }
-        let mut sides = split(alloc, forest, list)?;
+        let mut sides = split(forest, list, pool)?;
         match sides.low {
-            None => Ok(ListPlan::Bottom),
+            None => {
+                pool.give(sides.yes);
+                pool.give(sides.no);
+                Ok(ListPlan::Bottom)
+            }
             Some(level) => {
                 cut(&mut sides.yes);
                 cut(&mut sides.no);

@@ -14,10 +14,10 @@ ghost use Rattle.spd_weigh.specs.Summed.{summed, taken, weighed, MaySum, IsAlone
 
 use crate::way::Way;
 use spd_apply::OpFault;
-use spd_gather::{ListPlan, ListRule, split};
+use spd_gather::{ListPlan, ListRule, Pool, split};
 use spd_nodes::{Forest, Leaf, Ref, Steps, View};
 use spd_scaled::{ceil_div, floor_div};
-use std::alloc::{AllocError, Global};
+use std::alloc::AllocError;
 use std::sync::ledger::Ledger;
 
 /// Weights and values in turn, weighed and summed over a slot: `first` and `end` are the number of its first test and the one
@@ -185,11 +185,11 @@ fn at_value<F: Forest>(forest: &mut F, r: Ref, first: u16, end: u16, value: u16)
 
 /// Each Ref at its value of the slot: two in turn have one value.
 fn at_slot<F: Forest>(
-    alloc: Global,
     forest: &mut F,
     list: &[Ref],
     first: u16,
     end: u16,
+    pool: &mut Pool,
 ) -> Result<Vec<Ref>, AllocError>
     requires sound { IsSound (F.shows forest.old) }
     requires known { AreKnown (F.shows forest.old) list.now }
@@ -201,7 +201,7 @@ fn at_slot<F: Forest>(
     ensures known { IfOk result (λ v. AreKnown (F.shows forest.old) v.items) }
     ensures trees { IfOk result (λ v. trees_of (F.shows forest.old) v.items ≡ taken first end 0 (trees_of (F.shows forest.old) list.now)) }
 {
-    let mut at = Vec::with_capacity(alloc, list.len())?;
+    let mut at = pool.take();
     for i in 0..list.len() {
         let r = at_value(forest, list[i], first, end, (i / 2) as u16);
         at.push(r)?;
@@ -277,16 +277,22 @@ impl ListRule for Weighing {
 
     fn plan<F: Forest>(
         &self,
-        alloc: Global,
         forest: &mut F,
         list: &[Ref],
+        pool: &mut Pool,
     ) -> Result<ListPlan, AllocError> {
-        let mut sides = split(alloc, forest, list)?;
+        let mut sides = split(forest, list, pool)?;
         match sides.low {
-            None => Ok(ListPlan::Bottom),
+            None => {
+                pool.give(sides.yes);
+                pool.give(sides.no);
+                Ok(ListPlan::Bottom)
+            }
             Some(level) => {
                 if self.first <= level.0 && level.0 < self.end {
-                    let mut below = at_slot(alloc, forest, list, self.first, self.end)?;
+                    pool.give(sides.yes);
+                    pool.give(sides.no);
+                    let mut below = at_slot(forest, list, self.first, self.end, pool)?;
                     clear(forest, &mut below, None);
                     Ok(ListPlan::Below(below))
                 } else {
