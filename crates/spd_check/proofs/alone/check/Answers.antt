@@ -1,5 +1,4 @@
 use Rattle.std.proofs.Common.{sym, subst, Result, Ok, Err, IfOk, IfErr}
-use Rattle.spd_model.specs.Chances.{IsValid}
 use Rattle.spd_model.specs.Lawful.{IsLawful}
 use Rattle.spd_model.proofs.CallerLemmas.Results.{err_is}
 use Rattle.spd_model.proofs.CallerLemmas.Validity.{is_valid}
