@@ -25,11 +25,11 @@ use Rattle.spd_gen.proofs.ValidLaws.{length-vars, size-at, left-below}
 
 -- ---- names
 
-all_below : (ℕ → Bool) → ℕ → Bool
+unfoldable pub all_below : (ℕ → Bool) → ℕ → Bool
 all_below test zero = true
 all_below test (suc n) = test n && all_below test n
 
-below-all : (test : ℕ → Bool) (n : ℕ) → all_below test n ≡ true → (i : ℕ) → i < n → test i ≡ true
+pub below-all : (test : ℕ → Bool) (n : ℕ) → all_below test n ≡ true → (i : ℕ) → i < n → test i ≡ true
 unfolding all_below
 below-all test zero h i lt = absurd (omega arith)
 below-all test (suc n) h i lt =
@@ -37,10 +37,10 @@ below-all test (suc n) h i lt =
     below_more (λ k. test k ≡ true) n (below-all test n two.1) two.0 i (omega arith)
 
 -- the digits of a number below one hundred
-spelled : ℕ → List ℕ
+unfoldable pub spelled : ℕ → List ℕ
 spelled n = if nat_lt n 10 then (48 + n) ∷ [] else (48 + n / 10) ∷ (48 + n % 10) ∷ []
 
-decimal-spelled : (n : ℕ) → n < 100 → decimal n ≡ spelled n
+pub decimal-spelled : (n : ℕ) → n < 100 → decimal n ≡ spelled n
 unfolding spelled
 decimal-spelled n h = either (nat_lt n 10) refl
   where
@@ -62,13 +62,13 @@ reboot-named i h =
 digits-differ : (i j : ℕ) → i < j → j < 63 → decimal (i + 1) ≡ decimal (j + 1) → ⊥
 digits-differ i j h k e = let same : i + 1 ≡ j + 1 = decimal_injective (i + 1) (j + 1) (omega arith) (omega arith) e in omega arith
 
-machines-differ : (i j : ℕ) → i < j → j < 63 → machine i ≢ machine j
+pub machines-differ : (i j : ℕ) → i < j → j < 63 → machine i ≢ machine j
 machines-differ i j h k e = digits-differ i j h k (ap (drop 1) e)
 
-reboots-differ : (i j : ℕ) → i < j → j < 63 → (reboot 0 i).name ≢ (reboot 0 j).name
+pub reboots-differ : (i j : ℕ) → i < j → j < 63 → (reboot 0 i).name ≢ (reboot 0 j).name
 reboots-differ i j h k e = digits-differ i j h k (ap (drop 6) e)
 
-noop-differs : (i : ℕ) → codes "noop" ≢ codes "reboot" ++ decimal (i + 1)
+pub noop-differs : (i : ℕ) → codes "noop" ≢ codes "reboot" ++ decimal (i + 1)
 noop-differs i e = let first : get_or (codes "noop") 0 0 ≡ get_or (codes "reboot" ++ decimal (i + 1)) 0 0 = ap (λ (l : List ℕ). get_or l 0 0) e in omega arith
 
 distinct-below : (f : ℕ → List ℕ) (n : ℕ) → ((i j : ℕ) → i < j → j < n → f i ≢ f j) → AreDistinct (map f (numbers_below n))

@@ -2,3 +2,10 @@ pub mod WritingLaws
 pub mod TextLaws
 pub mod ValidLaws
 pub mod LawfulLaws
+pub mod Spots
+pub mod Names
+pub mod TreeTexts
+pub mod VariableTexts
+pub mod ActionTexts
+pub mod SectionTexts
+pub mod FileText

@@ -25,4 +25,5 @@ mod trees;
 mod variables;
 
 pub use laws::{law_decided, law_lawful};
+pub use purpose::Purpose;
 pub use reader::read_model;

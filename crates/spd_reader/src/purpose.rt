@@ -5,7 +5,7 @@ ghost use Rattle.spd_reader.specs.Trees.{may_prime};
 
 /// What a tree is for.
 #[derive(Clone, Copy, PartialEq, Eq, Debug)]
-pub(crate) enum Purpose {
+pub enum Purpose {
     /// A decision diagram.
     Diagram,
     /// The probabilities of the next values of the variable of this number.
