@@ -1,15 +1,21 @@
 //! The program `spudd`: the words of the command line, the system's files and streams, and the exit status.
 #![tactic(auto)]
 
+mod progress;
+mod terminal;
+
+use progress::{Cleared, Progress};
 use spd_edge::{RealPlace, StdErr, StdOut, WriterOut};
+use spd_help::{Remembering, Screen, show};
 use spd_model::Word;
 use spd_solver::{Status, number, solve_run, write_message};
-use spd_tasks::Open;
 use sqlite_items::Items;
 use std::alloc::AllocError;
 use std::env::{Env, FillError};
+use std::io::IsTerminal;
 use std::process::ExitCode;
 use std::thread::Threads;
+use terminal::{Told, tell};
 
 /// What `--help` prints: a screen of 80 columns and 40 lines.
 const HELP: &str = "\
@@ -95,11 +101,51 @@ fn page(words: &[Word]) -> Option<&'static str> {
     }
 }
 
+/// Writes the message of a status to standard error, and behind it what a person is told, where that is a terminal.
+fn answer(rt: HostRuntime, terminal: bool, status: &Status, told: Told<'_>) {
+    let mut errors: StdErr = WriterOut::new(Vec::new(rt.alloc()), rt.stderr());
+    // Where the message can't be written, the status stays the same.
+    if write_message(status, &mut errors).is_err() || !terminal {
+        return;
+    }
+    let mut screen = Screen::new(rt.alloc());
+    if tell(&rt, rt.alloc(), &mut screen, status, told).is_ok() {
+        let _ = show(terminal, &screen, &mut errors);
+    }
+}
+
 /// Runs the command of the words on the system's files, with threads that this handle starts, and says how it ended.
 fn run<R: Threads + Sync>(threads: &R, rt: HostRuntime, words: &[Word]) -> Status {
-    let mut place = RealPlace::new(rt);
-    let mut output: StdOut = WriterOut::new(Vec::new(rt.alloc()), rt.stdout());
-    solve_run(threads, &Open, rt.alloc(), words, &mut place, &mut output)
+    let terminal = rt.stderr().is_terminal();
+    let progress = Progress::new(rt, terminal);
+    let mut place = Remembering::new(rt.alloc(), RealPlace::new(rt), terminal);
+    let stdout: StdOut = WriterOut::new(Vec::new(rt.alloc()), rt.stdout());
+    let mut output = Cleared {
+        sink: stdout,
+        progress: &progress,
+    };
+    let status = solve_run(
+        threads,
+        &progress,
+        rt.alloc(),
+        words,
+        &mut place,
+        &mut output,
+    );
+    progress.clear();
+    let bytes = place.bytes();
+    answer(rt, terminal, &status, Told { words, bytes });
+    status
+}
+
+/// Says how something ended that isn't a command's run.
+fn ended(rt: HostRuntime, status: Status) -> Status {
+    let told = Told {
+        words: &[],
+        bytes: &[],
+    };
+    answer(rt, false, &status, told);
+    status
 }
 
 fn main(rt: HostRuntime) -> ExitCode {
@@ -107,14 +153,11 @@ fn main(rt: HostRuntime) -> ExitCode {
         Ok(words) => match page(&words) {
             Some(text) => match print!(rt; "{text}") {
                 Ok(()) => Status::Done,
-                Err(_) => Status::WriteFault,
+                Err(_) => ended(rt, Status::WriteFault),
             },
             None => run(&rt, rt, &words),
         },
-        Err(AllocError) => Status::Memory,
+        Err(AllocError) => ended(rt, Status::Memory),
     };
-    let mut errors: StdErr = WriterOut::new(Vec::new(rt.alloc()), rt.stderr());
-    // Where the message can't be written, the status stays the same.
-    let _ = write_message(&status, &mut errors);
     ExitCode::from(number(&status))
 }
