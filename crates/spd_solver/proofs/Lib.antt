@@ -6,4 +6,5 @@ mod StateTexts
 pub mod TableLaws
 pub mod Causes
 pub mod RunLaws
+pub mod RingLaws
 mod Writing
