@@ -91,18 +91,19 @@ takes-states : (way : Way) (m : Process) (options : Options) → IsWithinLimits 
 takes-states Diagrams m options h = tt
 takes-states Tables m options h = h
 
+-- a process within the limits passes none of them
+pub stage-within : (options : Options) (m : Process) → IsWithinLimits Diagrams m options → (stage : Stage) → HasMoreNodes m options stage → ⊥
+stage-within options m h Stage.Building more = omega (arith, h.0, more)
+stage-within options m h (Stage.Turn k) more = let few = h.1 k more.1 in omega (arith, few, more.2)
+
 -- the file of a process that is as it should be, within the limits, isn't refused, and passes no limit
 module _ (way : Way) (file bytes : List ℕ) (options : Options) (m : Process) (is : IsFileOf bytes m) (valid : IsValid m) (within : IsWithinLimits way m options) where
   pub accepted-right : (s : Status) → RefusesFile way file bytes s → ⊥
   accepted-right = file_right way file bytes m is valid (takes-states way m options within)
 
-  stage-within : IsWithinLimits Diagrams m options → (stage : Stage) → HasMoreNodes m options stage → ⊥
-  stage-within h Stage.Building more = omega (arith, h.0, more)
-  stage-within h (Stage.Turn k) more = let few = h.1 k more.1 in omega (arith, few, more.2)
-
   pub accepted-within : (stage : Stage) (limit : ℕ) → PassesLimit way bytes options (S.NodeLimit stage limit) → ⊥
   accepted-within stage limit h =
-      stage-within (subst (λ w. IsWithinLimits w m options) h.2 within) stage
+      stage-within options m (subst (λ w. IsWithinLimits w m options) h.2 within) stage
       (subst (λ (n : Process). HasMoreNodes n options stage) (one_model bytes h.0 m h.1.reads is.reads) h.4)
 
 -- a file of which a turn passes the limit isn't refused

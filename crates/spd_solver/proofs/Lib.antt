@@ -5,4 +5,5 @@ mod StateTexts
 pub mod TableLaws
 pub mod Causes
 pub mod RunLaws
+pub mod RingLaws
 mod Writing

@@ -18,7 +18,6 @@ use Rattle.spd_frozen.specs.Told.{told}
 use Rattle.spd_syntax.specs.declared.unread.Unread.{Unread}
 use Rattle.spd_reader.specs.Reading.{IsRead, TellsRefusal as TellsFault}
 use Rattle.spd_solver.specs.declared.command.Way.{Way}
-use Rattle.spd_solver.specs.declared.command.Way.TheVariants.{Diagrams}
 use Rattle.spd_solver.specs.declared.file.Unreadable.{Unreadable}
 use Rattle.spd_solver.specs.declared.solving.Solution.{Solution}
 use Rattle.spd_solver.specs.declared.solving.Unsolved.{Unsolved}
@@ -28,7 +27,7 @@ use Rattle.spd_solver.specs.declared.status.Status.TheVariants as S
 use Rattle.spd_solver.specs.Command.{Command, solving, AskFor, OnCommand, IsUsage}
 use Rattle.spd_solver.specs.Kind.{Kind, whole, refusal, limited, kind_of}
 use Rattle.spd_solver.specs.Run.{Ends, Refuses, Exceeds, HoldsAccepted, HoldsRefused, Seen, ReadsCalmly, IsUnwritten, Means, Completes, TellsRefusal}
-use Rattle.spd_solver.specs.Solve.{residual, file_limit, IsFileOf, TellsStop, RefusesFile, HasMoreNodes, PassesLimit}
+use Rattle.spd_solver.specs.Solve.{residual, file_limit, IsFileOf, TellsStop, RefusesFile, PassesLimit}
 use Rattle.spd_solver.specs.inner.Stages.{IsSolution, IsUnsolved, FailsToRead, Asks, AskWrongly, Answers, ending, finished_status, unreadable_status, unread_status, unsolved_status}
 use Rattle.spd_solver.proofs.Causes.{file_once, file_right, accepted-right, accepted-within, turn-right}
 
@@ -46,17 +45,17 @@ told_of : (o : Option (List ℕ)) (bytes : List ℕ) (P : List ℕ → Type 0) �
 told_of None bytes P p is = absurd (none-some bytes is)
 told_of (Some held) bytes P p is = subst P (same_Some held bytes is) p
 
-tells_stop : (m : Process) (options : Options) (why : Why) (r : ℤ) → why ≡ (stop_of m options.turns options.span).why → r ≡ residual m options
+pub tells_stop : (m : Process) (options : Options) (why : Why) (r : ℤ) → why ≡ (stop_of m options.turns options.span).why → r ≡ residual m options
     → TellsStop m options (elim why [ Why.Done ↦ S.Done | Why.Limit ↦ S.TurnLimit r ])
 tells_stop m options Why.Done r why is = sym why
 tells_stop m options Why.Limit r why is = (sym why, is)
 
 -- a run that is done ends so
-done_status : (why : Why) (r : ℤ) → why ≡ Why.Done → elim why [ Why.Done ↦ S.Done | Why.Limit ↦ S.TurnLimit r ] ≡ S.Done
+pub done_status : (why : Why) (r : ℤ) → why ≡ Why.Done → elim why [ Why.Done ↦ S.Done | Why.Limit ↦ S.TurnLimit r ] ≡ S.Done
 done_status why r is = ap (λ (w : Why). elim w [ Why.Done ↦ S.Done | Why.Limit ↦ S.TurnLimit r ]) is
 
 -- a run that was finished ends with its whole text
-finished_whole : (why : Why) (r : ℤ) → kind_of (elim why [ Why.Done ↦ S.Done | Why.Limit ↦ S.TurnLimit r ]) ≡ whole
+pub finished_whole : (why : Why) (r : ℤ) → kind_of (elim why [ Why.Done ↦ S.Done | Why.Limit ↦ S.TurnLimit r ]) ≡ whole
 finished_whole Why.Done r = refl
 finished_whole Why.Limit r = refl
 
@@ -117,7 +116,7 @@ module _ (way : Way) (file : List ℕ) (options : Options) (before now : Seen) w
   }
 
   pub memory_answers : IsUnwritten before now → Answers (solving way file options) S.Memory before now
-  memory_answers unwritten = record { means = unwritten; completes = tt; tells = tt }
+  memory_answers unwritten = record { means = (tt, unwritten); completes = tt; tells = tt }
 
   pub unreadable_answers : (why : Unreadable) → FailsToRead before.inputs now.inputs file file_limit why → IsUnwritten before now
       → Answers (solving way file options) (unreadable_status why) before now
@@ -210,13 +209,13 @@ module _ (way : Way) (file : List ℕ) (options : Options) (before now : Seen) w
 
 -- ---- for the words that were given
 
-module _ (words : List (List ℕ)) (way : Way) (file : List ℕ) (options : Options) (outcome : Result Status Status) (status : Status) (before now : Seen)
-    (is : status ≡ ending outcome) (asks : Asks words way file options) (answers : Answers (solving way file options) (ending outcome) before now) where
+module _ (words : List (List ℕ)) (given : Command) (outcome : Result Status Status) (status : Status) (before now : Seen)
+    (is : status ≡ ending outcome) (asks : Asks words given) (answers : Answers given (ending outcome) before now) where
   -- what is answered to the command that the words ask for
   answered : (command : Command) → AskFor words command → Answers command status before now
   answered command asked =
       subst (λ (other : Command). Answers other status before now) (sym (asks.once command asked))
-      (subst (λ (s : Status). Answers (solving way file options) s before now) (sym is) answers)
+      (subst (λ (s : Status). Answers given s before now) (sym is) answers)
 
   pub means : OnCommand words (λ command. Means (kind_of status) command status before now)
   means command asked = (answered command asked).means
@@ -236,7 +235,7 @@ module _ (words : List (List ℕ)) (way : Way) (file : List ℕ) (options : Opti
   -- a command that was run doesn't end for its words
   pub runs : (word : ℕ) → (status ≡ S.Usage word) ↔ IsUsage words word
   runs word = (
-    λ wrong. absurd (subst (λ (s : Status). Means (kind_of s) (solving way file options) s before now) wrong (means (solving way file options) asks.asked)),
+    λ wrong. absurd (subst (λ (s : Status). Means (kind_of s) given s before now) wrong (means given asks.asked)),
     λ wrong. absurd (asks.right word wrong),
   )
 

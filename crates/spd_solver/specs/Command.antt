@@ -11,12 +11,18 @@ use Rattle.spd_solver.specs.declared.command.Way.TheVariants.{Diagrams, Tables}
 pub data Command : Type 0 where
   -- solve the model in the file of this name in one of the two ways
   solving : Way → List ℕ → Options → Command
+  -- write the file of a ring of so many machines
+  generating : ℕ → Command
+  -- solve the process of a ring of so many machines on decision diagrams
+  solving_ring : ℕ → Options → Command
 
--- The command that words say, where it is one that the top call runs: `solve` goes over decision diagrams, and `plain` over tables. A
--- file's name is the word of its number.
+-- The command that words say, where it is one that the top call runs: `solve` goes over decision diagrams, and `plain` over tables; `gen`
+-- writes the file of a ring, and `ring` solves its process. A file's name is the word of its number.
 abbrev pub command_of : List (List ℕ) → Said → Option Command
 command_of words (Said.Solve file options) = Some (solving Diagrams (text_at words file) options)
 command_of words (Said.Plain file options) = Some (solving Tables (text_at words file) options)
+command_of words (Said.Gen machines) = Some (generating machines)
+command_of words (Said.Ring machines options) = Some (solving_ring machines options)
 command_of words _ = None
 
 -- the words ask for this command

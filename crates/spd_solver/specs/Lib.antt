@@ -3,4 +3,5 @@ pub mod Message
 pub mod Run
 pub mod Kind
 pub mod Solve
+pub mod Ring
 pub mod inner

@@ -6,12 +6,16 @@ use Rattle.spd_edge.specs.Told.{Took, TookFront}
 use Rattle.spd_edge.specs.declared.outside.Stage.TheVariants as Stage
 use Rattle.spd_model.specs.Process.{Process}
 use Rattle.spd_model.specs.Chances.{IsValid}
+use Rattle.spd_gen.specs.Ring.{ring_text}
+use Rattle.spd_gen.specs.Process.{ring_process}
+use Rattle.spd_solver.specs.declared.command.Way.TheVariants.{Diagrams}
 use Rattle.spd_solver.specs.declared.status.Stage.TheVariants.{Building}
 use Rattle.spd_solver.specs.declared.status.Status.{Status}
-use Rattle.spd_solver.specs.declared.status.Status.TheVariants.{OpenFault, ReadFault, NodeLimit}
-use Rattle.spd_solver.specs.Command.{Command, solving}
+use Rattle.spd_solver.specs.declared.status.Status.TheVariants.{Done, OpenFault, ReadFault, NodeLimit}
+use Rattle.spd_solver.specs.Command.{Command, solving, generating, solving_ring}
 use Rattle.spd_solver.specs.Kind.{Kind, whole, cut, refusal, limited, outside, memory, usage}
 use Rattle.spd_solver.specs.Solve.{IsFileOf, IsSolved, RefusesFile, PassesLimit, IsWithinLimits}
+use Rattle.spd_solver.specs.Ring.{IsRingSolved, RingPassesLimit}
 
 -- the bytes that a place holds under each name, where it tells them
 abbrev pub Held : Type 0
@@ -22,6 +26,14 @@ Held = List ℕ → Option (List ℕ)
 -- the names that a command reads
 abbrev pub Reads : Command → List ℕ → Type 0
 Reads (solving way file options) name = name ≡ file
+Reads (generating machines) name = ⊥
+Reads (solving_ring machines options) name = ⊥
+
+-- The commands that take memory. The others never want it.
+abbrev pub TakesMemory : Command → Type 0
+TakesMemory (solving way file options) = Unit {0}
+TakesMemory (generating machines) = ⊥
+TakesMemory (solving_ring machines options) = Unit {0}
 
 -- Bytes that were read from the file of this name: those that the place holds, where it tells them. Where it doesn't, as the system's
 -- files don't, they are some bytes.
@@ -31,23 +43,34 @@ AreOf held file bytes = IfSome (held file) (λ told. bytes ≡ told)
 -- A finished job, by its status and its text.
 abbrev pub Ends : Command → Held → Status → List ℕ → Type 0
 Ends (solving way file options) held status text = (bytes : List ℕ) × AreOf held file bytes × IsSolved bytes options status text
+Ends (generating machines) held status text = (status ≡ Done) × (text ≡ ring_text machines)
+Ends (solving_ring machines options) held status text = IsRingSolved machines options status text
 
 -- Why a command's files are refused.
 abbrev pub Refuses : Command → Held → Status → Type 0
 Refuses (solving way file options) held status = (bytes : List ℕ) × AreOf held file bytes × RefusesFile way file bytes status
+Refuses (generating machines) held status = ⊥
+Refuses (solving_ring machines options) held status = ⊥
 
 -- Why the node limit is told of a command's files.
 abbrev pub Exceeds : Command → Held → Status → Type 0
 Exceeds (solving way file options) held status = (bytes : List ℕ) × AreOf held file bytes × PassesLimit way bytes options status
+Exceeds (generating machines) held status = ⊥
+Exceeds (solving_ring machines options) held status = RingPassesLimit machines options status
 
 -- The place tells files of a command that are refused.
 abbrev pub HoldsRefused : Command → Held → Status → Type 0
 HoldsRefused (solving way file options) held status = (bytes : List ℕ) × (held file ≡ Some bytes) × RefusesFile way file bytes status
+HoldsRefused (generating machines) held status = ⊥
+HoldsRefused (solving_ring machines options) held status = ⊥
 
--- The place tells files of a command that are as they should be, of processes within the limits.
+-- The place tells files of a command that are as they should be, of processes within the limits; where it reads none, its process is within
+-- the limits.
 abbrev pub HoldsAccepted : Command → Held → Type 0
 HoldsAccepted (solving way file options) held =
     (bytes : List ℕ) × (m : Process) × (held file ≡ Some bytes) × IsFileOf bytes m × IsValid m × IsWithinLimits way m options
+HoldsAccepted (generating machines) held = Unit {0}
+HoldsAccepted (solving_ring machines options) held = IsWithinLimits Diagrams (ring_process machines) options
 
 -- ---- what each kind of end means, whatever the command is
 
@@ -80,8 +103,8 @@ FailsToRead command (ReadFault name) before now =
 FailsToRead command _ before now = ⊥
 
 -- What an end of each kind means for a command. Whole: its files were read, and the output took the text of the finished job, and
--- nothing else. Cut: its files were read, a write failed, and the output took a front of that text. Otherwise nothing was written, and
--- what is refused or passes the node limit was read and has its cause in the files.
+-- nothing else. Cut: its files were read, a write failed, and the output took a front of that text. Otherwise nothing was written;
+-- what is refused or passes the node limit was read and has its cause in the files, and a command that takes no memory doesn't want it.
 abbrev pub Means : Kind → Command → Status → Seen → Seen → Type 0
 Means whole command status before now =
     (text : List ℕ) × Ends command before.inputs.holds status text × Took before.taken text now.taken × (now.faults ≡ before.faults)
@@ -92,7 +115,7 @@ Means cut command status before now =
 Means refusal command status before now = Refuses command before.inputs.holds status × IsUnwritten before now × ReadsCalmly command before now
 Means limited command status before now = Exceeds command before.inputs.holds status × IsUnwritten before now × ReadsCalmly command before now
 Means outside command status before now = FailsToRead command status before now × IsUnwritten before now
-Means memory command status before now = IsUnwritten before now
+Means memory command status before now = TakesMemory command × IsUnwritten before now
 Means usage command status before now = ⊥
 
 -- A command whose files are as they should be isn't refused and passes no limit: it is finished, unless the outside fails or memory runs

@@ -1,7 +1,6 @@
 //! What the words of the command ask for.
 ghost use Rattle.std.specs.Prelude.{IfOk, IfErr};
-ghost use Rattle.spd_model.specs.Options.{AreOptions};
-ghost use Rattle.spd_solver.specs.inner.Stages.{Asks, AskWrongly};
+ghost use Rattle.spd_solver.specs.inner.Stages.{Asks, AskWrongly, IsWithinItsLimits, command_for};
 
 use spd_model::{Options, Word};
 use spd_words::{Command, WordsFault, read_words, text_at};
@@ -15,30 +14,47 @@ pub(crate) enum Way {
     Tables,
 }
 
-/// What the top call runs: it solves the model in the file of this name.
+/// What the top call runs.
 #[derive(Clone, Copy, Debug)]
-pub(crate) struct Job<'a> {
-    pub way: Way,
-    pub file: &'a [u8],
-    pub options: Options,
+pub(crate) enum Job<'a> {
+    /// It solves the model in the file of this name.
+    Solve {
+        way: Way,
+        file: &'a [u8],
+        options: Options,
+    },
+    /// It writes the file of a ring of so many machines, 2 to 63.
+    Generate {
+        machines: u32,
+    },
+    /// It solves the process of a ring of so many machines, 2 to 63, on decision diagrams.
+    Ring {
+        machines: u32,
+        options: Options,
+    },
 }
 
 /// What the words ask the top call for, or the number of the first word that can't stand where it does, counted from 0. A command that
 /// the top call doesn't run can't stand.
 pub(crate) fn read_job(words: &[Word]) -> Result<Job<'_>, usize>
-    ensures job { IfOk result (λ job. Asks words.now job.way job.file.now job.options) }
-    ensures options { IfOk result (λ job. AreOptions job.options) }
+    ensures job { IfOk result (λ job. Asks words.now (command_for job)) }
+    ensures limits { IfOk result (λ job. IsWithinItsLimits job) }
     ensures usage { IfErr result (AskWrongly words.now) }
 {
     match read_words(words) {
-        Ok(Command::Solve { file, options }) => Ok(Job {
+        Ok(Command::Solve { file, options }) => Ok(Job::Solve {
             way: Way::Diagrams,
             file: text_at(words, file),
             options,
         }),
-        Ok(Command::Plain { file, options }) => Ok(Job {
+        Ok(Command::Plain { file, options }) => Ok(Job::Solve {
             way: Way::Tables,
             file: text_at(words, file),
+            options,
+        }),
+        Ok(Command::Gen { n }) => Ok(Job::Generate { machines: n }),
+        Ok(Command::Ring { n, options }) => Ok(Job::Ring {
+            machines: n,
             options,
         }),
         Ok(_) => Err(0),

@@ -13,6 +13,7 @@ mod file;
 mod message;
 mod pieces;
 mod refusals;
+mod ring;
 mod run;
 mod solving;
 mod states;

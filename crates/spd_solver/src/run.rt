@@ -8,10 +8,11 @@ ghost use Rattle.spd_model.specs.Options.{AreOptions};
 ghost use Rattle.spd_solver.specs.Command.{OnCommand, IsUsage, solving};
 ghost use Rattle.spd_solver.specs.Kind.{kind_of, whole};
 ghost use Rattle.spd_solver.specs.Run.{Reads, Ends, Means, Completes, TellsRefusal, seen};
-ghost use Rattle.spd_solver.specs.inner.Stages.{Answers, ending, finished_status};
+ghost use Rattle.spd_solver.specs.inner.Stages.{Answers, IsWithinItsLimits, command_for, ending, finished_status};
 
 use crate::command::{Job, Way, read_job};
 use crate::file::{FILE_LIMIT, read_file};
+use crate::ring::{generate, solve_ring};
 use crate::solving::{Solution, solve_model};
 use crate::status::Status;
 use crate::watch::Watch;
@@ -32,7 +33,7 @@ fn digest_of(bytes: &[u8]) -> [u8; 32]
 }
 
 /// How a command ends once the result of its run is written.
-fn finished(solution: &Solution) -> Status
+pub(crate) fn finished(solution: &Solution) -> Status
     ensures { result ≡ finished_status solution.now }
 {
     match solution.why {
@@ -85,10 +86,43 @@ fn solve<R: Threads + Sync, G: Gate + Watch, P: Place, K: Sink>(
     Ok(finished(&solution))
 }
 
+/// Runs what the words ask for.
+fn run_job<R: Threads + Sync, G: Gate + Watch, P: Place, K: Sink>(
+    rt: &R,
+    gate: &G,
+    alloc: Global,
+    job: Job<'_>,
+    place: &mut P,
+    out: &mut K,
+) -> Result<Status, Status>
+    requires fresh { (name : List ℕ) → (P.inputs place.old).stage name ≡ None }
+    requires limits { IsWithinItsLimits job }
+
+    ensures answers { Answers (command_for job.entry) (ending result)
+        (seen P.inputs K.taken K.faults place.old out.old) (seen P.inputs K.taken K.faults place.new out.new) }
+
+    // Whatever the status is.
+    ensures never_falls { NoneFalls (P.inputs place.old).faults (P.inputs place.new).faults }
+    ensures asked { (name : List ℕ) → (Reads (command_for job.entry) name → ⊥) → (P.inputs place.new).stage name ≡ None }
+    ensures closed { (name : List ℕ) → (P.inputs place.new).stage name ≢ Some Stage.Open }
+    ensures holds { (P.inputs place.new).holds ≡ (P.inputs place.old).holds }
+    ensures outputs { P.outputs place.new ≡ P.outputs place.old }
+    ensures named { K.name out.new ≡ K.name out.old }
+{
+    match job {
+        Job::Solve { way, file, options } => {
+            solve(rt, gate, alloc, way, file, &options, place, out)
+        }
+        Job::Generate { machines } => generate(machines, out),
+        Job::Ring { machines, options } => solve_ring(rt, gate, alloc, machines, &options, out),
+    }
+}
+
 /// Runs the command that the words give on the files of a place, writes its text to an output, and says how it ended.
 ///
 /// The commands are `solve`, which goes over decision diagrams, and `plain`, which goes over tables, each with the name of a file, where `-`
-/// stands for standard input, and with options; the words are those of `spd_words`. Turns on diagrams are made by as many threads of `rt` as
+/// stands for standard input, and with options, `gen`, which writes the file of a ring of 2 to 63 machines, and `ring`, which solves that file on diagrams
+/// and writes a summary of its result; the words are those of `spd_words`. Turns on diagrams are made by as many threads of `rt` as
 /// the options say, and the gate is told of each turn and of each action's backup: neither has a part in the result. A file is opened once,
 /// read to its end and closed; nothing is written before the whole result is known. What the clauses say, of every place, output and list
 /// of words:
@@ -111,7 +145,7 @@ fn solve<R: Threads + Sync, G: Gate + Watch, P: Place, K: Sink>(
 /// - `asked`, `closed`, `never_falls`, `holds`, `outputs`, `named`: the place is asked for no file but the command's, what was opened is
 ///   closed, no count falls, and all else stays.
 ///
-/// Want of memory alone (`Memory`) has no cause in a clause. The file's bytes are those that the place holds, where it tells them. Where it
+/// Want of memory alone (`Memory`) has no cause in a clause; `gen` takes none, and ends with `Done` unless a write fails. The file's bytes are those that the place holds, where it tells them. Where it
 /// doesn't, as the system's files don't, the clauses speak of some bytes: what was written is then still the whole right text of a model
 /// file, and a refusal one that a file has.
 pub fn solve_run<R: Threads + Sync, G: Gate + Watch, P: Place, K: Sink>(
@@ -143,9 +177,7 @@ pub fn solve_run<R: Threads + Sync, G: Gate + Watch, P: Place, K: Sink>(
     ensures named { K.name out.new ≡ K.name out.old }
 {
     match read_job(words) {
-        Ok(Job { way, file, options }) => {
-            ended(solve(rt, gate, alloc, way, file, &options, place, out))
-        }
+        Ok(job) => ended(run_job(rt, gate, alloc, job, place, out)),
         Err(word) => Status::Usage { word },
     }
 }

@@ -1,5 +1,5 @@
 -- The stages of a command: what each gives, why it fails, and the status of each failure.
-use Rattle.std.specs.Prelude.{ℕ, zero, suc, ◌<◌, ◌≤◌, ◌≡◌, true, List, [], ◌++◌, length, codes, ℤ, Some, IfSome, Result, Ok, Err}
+use Rattle.std.specs.Prelude.{ℕ, zero, suc, ◌<◌, ◌≤◌, ◌≡◌, true, List, [], ◌++◌, length, codes, ℤ, Option, Some, IfSome, Result, Ok, Err}
 use Rattle.std.specs.Arc.{arc_value}
 use Rattle.spd_edge.specs.Counts.{Rose}
 use Rattle.spd_edge.specs.Direction.{Direction}
@@ -22,27 +22,41 @@ use Rattle.spd_build.specs.declared.built.BuildFault.TheVariants as Build
 use Rattle.spd_turn.specs.declared.rooms.TurnFault.{TurnFault}
 use Rattle.spd_turn.specs.declared.rooms.TurnFault.TheVariants as Turn
 use Rattle.spd_turn.specs.Runs.{RunValue}
+use Rattle.spd_solver.specs.declared.command.Job.{Job}
 use Rattle.spd_solver.specs.declared.command.Way.{Way}
 use Rattle.spd_solver.specs.declared.command.Way.TheVariants.{Diagrams}
 use Rattle.spd_solver.specs.declared.status.Stage.TheVariants as Stages
 use Rattle.spd_solver.specs.declared.solving.Solution.{Solution}
+use Rattle.spd_model.specs.Options.{AreOptions}
 use Rattle.spd_model.specs.declared.options.Options.{Options}
 use Rattle.spd_solver.specs.declared.file.Unreadable.{Unreadable}
 use Rattle.spd_syntax.specs.declared.unread.Unread.{Unread}
 use Rattle.spd_solver.specs.declared.solving.Unsolved.{Unsolved}
 use Rattle.spd_solver.specs.declared.status.Status.{Status}
-use Rattle.spd_solver.specs.Command.{Command, solving, AskFor, IsUsage}
+use Rattle.spd_solver.specs.Command.{Command, solving, generating, solving_ring, AskFor, IsUsage}
 use Rattle.spd_solver.specs.Run.{Seen, Means, Completes, TellsRefusal}
 use Rattle.spd_solver.specs.Kind.{kind_of}
 use Rattle.spd_solver.specs.Solve.{state_text, value, TakesStates, RefusesProcess, HasMoreNodes}
 
 -- ---- words
 
--- the words ask for solving the model in a file of this name in this way, with these options, and for nothing else
-pub record Asks (words : List (List ℕ)) (way : Way) (file : List ℕ) (options : Options) : Type 0 where
-  pub asked : AskFor words (solving way file options)
-  pub once : (other : Command) → AskFor words other → other ≡ solving way file options
+-- what a job is asked for by
+abbrev pub command_for : Job → Command
+command_for (Job.Solve way file options) = solving way file.now options
+command_for (Job.Generate machines) = generating machines
+command_for (Job.Ring machines options) = solving_ring machines options
+
+-- the words ask for this command, and for nothing else
+pub record Asks (words : List (List ℕ)) (command : Command) : Type 0 where
+  pub asked : AskFor words command
+  pub once : (other : Command) → AskFor words other → other ≡ command
   pub right : (word : ℕ) → IsUsage words word → ⊥
+
+-- the numbers of a job lie within their limits
+abbrev pub IsWithinItsLimits : Job → Type 0
+IsWithinItsLimits (Job.Solve way file options) = AreOptions options
+IsWithinItsLimits (Job.Generate machines) = (2 ≤ machines) × (machines ≤ 63)
+IsWithinItsLimits (Job.Ring machines options) = (2 ≤ machines) × (machines ≤ 63) × AreOptions options
 
 -- the words can't be run, from the word of this number on
 pub record AskWrongly (words : List (List ℕ)) (word : ℕ) : Type 0 where
@@ -164,3 +178,7 @@ pub record Answers (command : Command) (status : Status) (before now : Seen) : T
   pub means : Means (kind_of status) command status before now
   pub completes : Completes (kind_of status) command before.inputs.holds
   pub tells : TellsRefusal (kind_of status) command before.inputs.holds status
+
+-- what is seen of any place, which the command doesn't touch, and an output
+abbrev pub seen_beside : {K : Type 0} → (K → Option (List ℕ)) → (K → ℕ) → Direction → K → Seen
+seen_beside taken faults inputs out = record { inputs = inputs; taken = taken out; faults = faults out }
