@@ -1,5 +1,4 @@
 use Rattle.std.proofs.Common.{◌≡◌, All, IfOk, map, ap, ◌∙◌, sym, subst}
-use Rattle.std.specs.List.Sorted.{IsStrictlySortedBy}
 use Rattle.std.proofs.lemmas.Iterator.{items_from_collect}
 use Rattle.std.proofs.lemmas.Iterator.Consumers.{YieldsList-from_copied, YieldsList-from_rest}
 use Rattle.std.proofs.lemmas.List.{take_all}
@@ -31,11 +30,3 @@ returns-clause-items c =
     let all = take_all c.loop-range.range-index c.args.ranges.now c.loop-range-test.false in
     let is = c.loop-range.invariant.items ∙ ap (λ xs. in_order (map range_of xs)) all in
     IfOk-weaker c.collect.result _ _ (λ v e. ap (map range_of) e ∙ is) (collected c)
-
-pub returns-clause-ordered : goal.returns-clause-ordered
-returns-clause-ordered c =
-    IfOk-weaker c.collect.result _ _ (λ v e. subst (IsStrictlySortedBy bounds_cmp) (sym e) c.iter.ensures.ordered) (collected c)
-
-pub returns-clause-small : goal.returns-clause-small
-returns-clause-small c h =
-    IfOk-weaker c.collect.result _ _ (λ v e. subst (All AreSmallBounds) (sym e) (c.loop-range.invariant.small h)) (collected c)

@@ -1,4 +1,4 @@
-use Rattle.std.proofs.Common.{◌≡◌, ◌<◌, List, map, ◌∙◌, sym, get_or, length, pos, to_z, of_z, FitsSigned, rules, ap, arith}
+use Rattle.std.proofs.Common.{◌≡◌, ◌<◌, List, map, ◌∙◌, sym, get_or, length, pos, to_z, of_z, FitsSigned, rules}
 use Rattle.std.proofs.lemmas.Int.{to_z-of_z}
 use Rattle.std.proofs.lemmas.List.{take_all}
 use mir.Syntax.{w128}
@@ -6,7 +6,6 @@ use Rattle.spd_model.specs.Ranges.{in_order, groups_of, value_in}
 use Rattle.spd_plain.specs.declared.ranges.Bounds.{Bounds}
 use Rattle.spd_plain.specs.inner.Bounds.{range_of}
 use Rattle.spd_plain.proofs.LookUp.{search_finds, found_same, value_read, values_more}
-use Rattle.std.proofs.Math.ListN.{length-map}
 use Rattle.spd_plain.proofs.ranges.merge_ranges.Goals as goal
 
 pub unwrap-place-requires : goal.unwrap-place-requires
@@ -35,13 +34,3 @@ returns c =
     let fits : FitsSigned w128 c.args.span = c.ranges.span in
     let all = simp to_z-of_z at c.loop-range.invariant in
     rw (take_all c.loop-range.range-index c.args.ranges.now c.loop-range-test.false) at all
-
-pub index-requires : goal.index-requires
-index-requires c =
-    let ks : List Bounds = c.deref-in-loop-range.result.now in
-    let alike : c.deref.result.now ≡ ks = c.deref.ensures.value ∙ sym c.deref-in-loop-range.ensures.value in
-    let within : c.unwrap-place.result < length ks = rw c.unwrap-place.ensures at c.binary_search.ensures.bound in
-    let many : length c.in_ok-values.values.items ≡ length ks =
-    ap length c.in_ok-values.ensures ∙ length-map (map range_of c.deref.result.now) _ ∙ length-map c.deref.result.now range_of ∙ ap length alike in
-    let near : c.unwrap-place.result < length c.in_ok-values.values.items = omega (arith, within, many) in
-    search rules

@@ -9,17 +9,15 @@ use Rattle.spd_model.specs.Turns.{turn, residual_of, place_of, error_of, stop_of
 use Rattle.spd_model.specs.Stops.{Stop}
 use Rattle.spd_plain.specs.declared.solve.Plain.{Plain}
 use Rattle.spd_plain.specs.inner.Sweeps.{stop_record}
-use Rattle.spd_model.specs.Lawful.{IsLawful}
 use Rattle.spd_model.proofs.CallerLemmas.Bounded.{residual_within, IsBounded-at}
 use Rattle.spd_plain.proofs.solve.solve_valid.Goals as goal
 
 pub error_of-requires : goal.error_of-requires
 error_of-requires c =
     let m = c.args.model.now in
-    let law = subst IsLawful c.model.view_is c.model.invariant in
     let fits : FitsSigned w128 c.in_ok-stop.stop.sweep.residual = search rules in
     simp to_z-of_z (subst (IsWithin _) (sym c.in_ok-stop.ensures.sweep.residual)
-    (residual_within m law c.requires.valid (at (sizes m) c.in_ok-stop.stop.value.items) (IsBounded-at (sizes m) c.in_ok-stop.stop.value.items c.in_ok-stop.ensures.values.bounded)))
+    (residual_within m c.requires.space.law c.requires.valid (at (sizes m) c.in_ok-stop.stop.value.items) (IsBounded-at (sizes m) c.in_ok-stop.stop.value.items c.in_ok-stop.ensures.values.bounded)))
 
 -- the result of a run that stopped so, with this table
 abbrev plain_at : Process → Stop → List ℤ → Plain

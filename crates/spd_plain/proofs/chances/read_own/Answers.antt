@@ -1,27 +1,23 @@
-use Rattle.std.proofs.Common.{rules, ◌≡◌, ◌∙◌, ◌*◌, ◌+◌, ◌∷◌, [], ℕ, ℤ, drop, ap, subst, get_or, FitsSigned, arith, ◌≤◌, map}
+use Rattle.std.proofs.Common.{rules, ◌≡◌, ◌∙◌, ◌+◌, ◌*◌, ◌≤◌, ℕ, ℤ, [], ◌∷◌, map, drop, get_or, ap, FitsSigned, arith}
+use Rattle.std.proofs.Math.Nat.{mul-le-mul_right}
 use Rattle.std.proofs.lemmas.Int.{to_z-of_z}
 use mir.Syntax.{w128}
-use Rattle.spd_model.specs.Lawful.{IsLawful}
 use Rattle.spd_model.specs.States.{sizes, states}
 use Rattle.spd_model.specs.Chances.{sizes_after}
-use Rattle.spd_plain.specs.inner.Chances.{chance_of}
-use Rattle.spd_plain.proofs.Tables.{axis_more, after_some, map_below_more, size_is}
-use Rattle.spd_plain.proofs.Weights.{entry_below}
-use Rattle.std.proofs.Math.Nat.{mul-le-mul_right}
-use Rattle.std.proofs.lemmas.Result.{IfOk-from_err}
 use Rattle.spd_model.specs.Numbers.{numbers_below}
-use Rattle.spd_plain.proofs.chances.kept_chances.Goals as goal
+use Rattle.spd_plain.specs.inner.Chances.{chance_of}
+use Rattle.spd_plain.proofs.Weights.{entry_below}
+use Rattle.spd_plain.proofs.Tables.{axis_more, size_is, after_some, map_below_more}
+use Rattle.spd_plain.proofs.chances.read_own.Goals as goal
 
 pub chance_at-requires-clause-place : goal.chance_at-requires-clause-place
 chance_at-requires-clause-place c =
-    let law = subst IsLawful c.model.view_is c.model.invariant in
     let axis = c.args.axis.now in
-    omega (arith, entry_below c.loop-value.value axis.size 0 axis.after c.loop-value-test.true (after_some c.args.model.now law axis c.requires.axis))
+    omega (arith, entry_below c.loop-value.value axis.size 0 axis.after c.loop-value-test.true (after_some c.args.model.now axis c.requires.axis))
 
 pub loop-value-preserved : goal.loop-value-preserved
 loop-value-preserved c =
     let m = c.args.model.now in
-    let law = subst IsLawful c.model.view_is c.model.invariant in
     let axis = c.args.axis.now in
     let v = c.loop-value.value in
     let chance = chance_of m c.args.action.now c.args.s.now axis.var in
@@ -29,8 +25,8 @@ loop-value-preserved c =
     let fits : FitsSigned w128 c.chance_at.result = search rules in
     let place : v * axis.after ≡ v * axis.after + 0 = omega arith in
     let here : c.chance_at.result ≡ f v = c.chance_at.ensures.value ∙ ap (λ (n : ℕ). chance (get_or (states (drop axis.var (sizes m))) n [])) place
-    ∙ ap chance (axis_more m axis c.requires.axis v 0 c.loop-value-test.true (after_some m law axis c.requires.axis)) in
-    rw (c.in_ok-push.ensures.items, to_z-of_z w128 c.chance_at.result fits) (map_below_more f v c.loop-value.kept.items _ c.loop-value.invariant here)
+    ∙ ap chance (axis_more m axis c.requires.axis v 0 c.loop-value-test.true (after_some m axis c.requires.axis)) in
+    rw (c.in_ok-push.ensures.items, to_z-of_z w128 c.chance_at.result fits) (map_below_more f v c.loop-value.own.items _ c.loop-value.invariant here)
 
 pub overflow_mul-value : goal.overflow_mul-value
 overflow_mul-value c =
@@ -45,7 +41,4 @@ returns c =
     let chance = chance_of m c.args.action.now c.args.s.now axis.var in
     let f : ℕ → ℤ = λ v. chance (v ∷ get_or (states (sizes_after m axis.var)) 0 []) in
     let all : c.loop-value.value ≡ axis.size = omega arith in
-    c.from_vec.ensures ∙ c.loop-value.invariant ∙ ap (λ (n : ℕ). map f (numbers_below n)) (all ∙ size_is m axis c.requires.axis)
-
-pub returns-in_err-push : goal.returns-in_err-push
-returns-in_err-push c = IfOk-from_err c.from_residual-in_err-push.result _ c.from_residual-in_err-push.ensures.0
+    c.loop-value.invariant ∙ ap (λ (n : ℕ). map f (numbers_below n)) (all ∙ size_is m axis c.requires.axis)
