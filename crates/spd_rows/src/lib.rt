@@ -12,11 +12,15 @@ mod files;
 #[cfg(test)]
 mod limits;
 #[cfg(test)]
+mod meeting;
+#[cfg(test)]
 mod outside;
 #[cfg(test)]
 mod refused;
 #[cfg(test)]
 mod solved;
+#[cfg(test)]
+mod tables;
 #[cfg(test)]
 mod texts;
 #[cfg(test)]
