@@ -9,7 +9,7 @@ ghost use Rattle.spd_model.specs.Turns.{value_limit};
 ghost use Rattle.spd_plain.specs.Space.{state_limit};
 ghost use Rattle.spd_plain.specs.inner.Axes.{IsSpace};
 ghost use Rattle.spd_plain.specs.inner.Outlooks.{outlook_of};
-ghost use Rattle.spd_plain.specs.inner.Expectations.{rounding_of, weighted, AreWeights, IsReady};
+ghost use Rattle.spd_plain.specs.inner.Expectations.{rounding_of, weighted, IsReady};
 
 use crate::chances::tell_chances;
 use crate::outlook::Outlook;
@@ -49,10 +49,7 @@ impl Work {
 /// The sum, over the values of a variable, of the probability of each times what `values` has there, where the variables after it
 /// have the values of their state at `place`.
 fn weighted_sum(chances: &[i128], values: &[i128], size: usize, after: usize, place: usize) -> i128
-    requires weights { AreWeights size after chances.now }
-    requires count { length values.now ≡ size * after }
-    requires few { size * after ≤ state_limit }
-    requires values { All (IsWithin (pos value_limit)) values.now }
+    requires ready { IsReady size after chances.now values.now }
     requires place { place < after }
     ensures sum { result ≡ weighted size after chances.now values.now place }
     ensures within { IsWithin (pos (value_limit * 1000000000000)) result }
