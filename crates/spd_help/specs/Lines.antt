@@ -36,3 +36,14 @@ line_text bytes at line = shown (lead at line ++ (before bytes at line ++ (behin
 -- a caret below the byte: as many blanks as what stands before it takes
 abbrev pub caret_text : List ℕ → ℕ → Line → List ℕ
 caret_text bytes at line = replicate (4 + length (shown (before bytes at line))) 32 ++ (shown (codes "^") ++ 10 ∷ [])
+
+-- where a byte stands: its file's name with line and column, the line, and a caret below the byte
+abbrev pub place_text : List ℕ → List ℕ → ℕ → Line → List ℕ
+place_text name bytes at line = heading_text name line.number (at - line.start + 1) ++ (line_text bytes at line ++ caret_text bytes at line)
+
+-- what a screen showed, then where a byte of a file stands, and then whatever else it shows
+pub record ShowsPlace (name bytes : List ℕ) (at : ℕ) (before now : List ℕ) : Type 0 where
+  pub line : Line
+  pub is_line : IsLineAt bytes at line
+  pub more : List ℕ
+  pub shows : now ≡ before ++ place_text name bytes at line ++ more

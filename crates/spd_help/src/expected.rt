@@ -85,7 +85,7 @@ fn tell_name(screen: &mut Screen, source: &Source<'_>, number: usize) -> Result<
     }
     if source.depth(number) == 0 && !is_declared && is_one_of(word, &SECTIONS) {
         screen.line(&[
-            b"  An `endaction` is missing: `endaction` is missing before `",
+            b"  `endaction` is missing before `",
             word,
             b"`.",
         ])

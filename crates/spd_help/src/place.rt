@@ -1,7 +1,7 @@
 //! Where a byte of a file stands: line, column, and the line itself with a caret below the byte.
 ghost use Rattle.std.specs.Prelude.{◌≡◌, ◌≢◌, ◌⊎◌, ℕ, ◌+◌, ◌-◌, ◌^◌, ◌<◌, ◌≤◌, ◌==◌, ◌∷◌, ◌++◌, [], length, take, count_by, slice_index, replicate, OnOk};
 ghost use Rattle.spd_help.specs.Shown.{shown, shown_byte};
-ghost use Rattle.spd_help.specs.Lines.{IsLineAt, heading_text, line_text, caret_text, before, behind, lead, tail};
+ghost use Rattle.spd_help.specs.Lines.{IsLineAt, heading_text, line_text, caret_text, place_text, before, behind, lead, tail};
 ghost use Rattle.spd_help.specs.declared.place.Line.{Line as LineValue};
 
 use crate::screen::Screen;
@@ -179,7 +179,7 @@ pub fn add_place(
 ) -> Result<(), AllocError>
     requires { at ≤ length bytes.now }
     ensures { OnOk result ((line : LineValue) × IsLineAt bytes.now at line
-        × (screen.new ≡ screen.old ++ (heading_text name.now line.number (at - line.start + 1) ++ (line_text bytes.now at line ++ caret_text bytes.now at line)))) }
+        × (screen.new ≡ screen.old ++ place_text name.now bytes.now at line)) }
 {
     let line = line_at(bytes, at);
     add_heading(screen, name, line.number, at - line.start + 1)?;
