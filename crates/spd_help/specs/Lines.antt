@@ -11,19 +11,27 @@ pub record IsLineAt (bytes : List ℕ) (at : ℕ) (line : Line) : Type 0 where
   pub around : (line.start ≤ at) × (at ≤ line.end) × (line.end ≤ length bytes)
   pub whole : (k : ℕ) → line.start ≤ k → k < line.end → slice_index bytes k ≢ 10
 
--- what is shown of the line: at most 40 bytes before the place, and at most 30 from there on
+-- where what is shown of the line begins: at most 40 bytes before the place
+abbrev pub left_of : ℕ → Line → ℕ
+left_of at line = max line.start (at - 40)
+
+-- where it ends: at most 70 bytes behind that
+abbrev pub right_of : ℕ → Line → ℕ
+right_of at line = min line.end (left_of at line + 70)
+
+-- what is shown of the line before the place, and from there on
 abbrev pub before : List ℕ → ℕ → Line → List ℕ
-before bytes at line = slice_range bytes (max line.start (at - 40)) at
+before bytes at line = slice_range bytes (left_of at line) at
 
 abbrev pub behind : List ℕ → ℕ → Line → List ℕ
-behind bytes at line = slice_range bytes at (min line.end (at + 30))
+behind bytes at line = slice_range bytes at (right_of at line)
 
 -- dots where a line goes on to the left or to the right
 abbrev pub lead : ℕ → Line → List ℕ
-lead at line = if nat_lt line.start (at - 40) then codes "... " else codes "    "
+lead at line = if nat_lt line.start (left_of at line) then codes "... " else codes "    "
 
 abbrev pub tail : ℕ → Line → List ℕ
-tail at line = if nat_lt (at + 30) line.end then codes " ..." else []
+tail at line = if nat_lt (right_of at line) line.end then codes " ..." else []
 
 -- the name of the file, with line and column counted from 1
 abbrev pub heading_text : List ℕ → ℕ → ℕ → List ℕ
