@@ -65,9 +65,9 @@ fn tell_open(screen: &mut Screen, source: &Source<'_>, number: usize) -> Result<
     let mut digits = Buffer::new();
     let depth = digits.format(source.depth(number));
     screen.line(&[
-        b"  A closing bracket is missing before this place: ",
+        b"  A closing bracket is missing before this place, where ",
         depth.as_bytes(),
-        b" of them where all that is open ends here.",
+        b" of those before it are open.",
     ])
 }
 
@@ -77,18 +77,14 @@ fn tell_name(screen: &mut Screen, source: &Source<'_>, number: usize) -> Result<
     let before = source.text(number.saturating_sub(1));
     let is_declared = before == b"dd".as_slice() || before == b"action".as_slice();
     match source.kind(number) {
-        Some(Kind::Close) => return screen.line(&[b"  A bracket too many."]),
+        Some(Kind::Close) => return screen.line(&[b"  This is one bracket too many."]),
         Some(Kind::Open) => {
             return screen.line(&[b"  The name of a variable is missing before this tree."]);
         }
         _ => {}
     }
     if source.depth(number) == 0 && !is_declared && is_one_of(word, &SECTIONS) {
-        screen.line(&[
-            b"  An `endaction` is missing: `endaction` is missing before `",
-            word,
-            b"`.",
-        ])
+        screen.line(&[b"  `endaction` is missing before `", word, b"`."])
     } else if is_one_of(word, &RESERVED) {
         screen.line(&[
             b"  `",
@@ -128,7 +124,7 @@ fn near_section(word: &[u8]) -> Option<&'static [u8]> {
 /// Tells what can stand where a section was expected.
 fn tell_section(screen: &mut Screen, source: &Source<'_>, number: usize) -> Result<(), AllocError> {
     if matches!(source.kind(number), Some(Kind::Close | Kind::CloseSum)) {
-        return screen.line(&[b"  A bracket too many."]);
+        return screen.line(&[b"  This is one bracket too many."]);
     }
     screen.add(
         b"  A section begins with `dd`, `action`, `reward`, `discount`, `tolerance` or `horizon`.",

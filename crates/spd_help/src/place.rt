@@ -1,7 +1,7 @@
 //! Where a byte of a file stands: line, column, and the line itself with a caret below the byte.
 ghost use Rattle.std.specs.Prelude.{◌≡◌, ◌≢◌, ◌⊎◌, ℕ, ◌+◌, ◌-◌, ◌^◌, ◌<◌, ◌≤◌, ◌==◌, ◌∷◌, ◌++◌, [], length, take, count_by, slice_index, replicate, OnOk};
 ghost use Rattle.spd_help.specs.Shown.{shown, shown_byte};
-ghost use Rattle.spd_help.specs.Lines.{IsLineAt, heading_text, line_text, caret_text, before, behind, lead, tail};
+ghost use Rattle.spd_help.specs.Lines.{IsLineAt, heading_text, line_text, caret_text, place_text, before, behind, lead, left_of, right_of, tail};
 ghost use Rattle.spd_help.specs.declared.place.Line.{Line as LineValue};
 
 use crate::screen::Screen;
@@ -112,13 +112,34 @@ fn add_heading(
     ])
 }
 
+/// Where what is shown of a line begins.
+fn left_of(at: usize, line: Line) -> usize
+    requires { line.start ≤ at }
+    ensures left { result ≡ left_of at line }
+    ensures before { result ≤ at }
+    ensures near { at ≤ result + 40 }
+{
+    line.start.max(at.saturating_sub(40))
+}
+
+/// Where what is shown of a line ends.
+fn right_of(at: usize, line: Line) -> usize
+    requires around { (line.start ≤ at) × (at ≤ line.end) }
+    requires small { at < 2 ^ 63 }
+    ensures right { result ≡ right_of at line }
+    ensures behind { at ≤ result }
+    ensures within { result ≤ line.end }
+{
+    line.end.min(left_of(at, line) + 70)
+}
+
 /// What is shown of a line before a place.
 fn before(bytes: &[u8], at: usize, line: Line) -> &[u8]
     requires { IsLineAt bytes.now at line }
     ensures text { result.now ≡ before bytes.now at line }
     ensures few { length result.now ≤ 40 }
 {
-    &bytes[line.start.max(at.saturating_sub(40))..at]
+    &bytes[left_of(at, line)..at]
 }
 
 /// What is shown of a line from a place on.
@@ -126,14 +147,15 @@ fn behind(bytes: &[u8], at: usize, line: Line) -> &[u8]
     requires { IsLineAt bytes.now at line }
     ensures { result.now ≡ behind bytes.now at line }
 {
-    &bytes[at..line.end.min(at + 30)]
+    &bytes[at..right_of(at, line)]
 }
 
 /// What stands to the left of what is shown of a line.
 fn lead<'a>(at: usize, line: Line) -> &'a [u8]
+    requires { line.start ≤ at }
     ensures { result.now ≡ lead at line }
 {
-    if line.start < at.saturating_sub(40) {
+    if line.start < left_of(at, line) {
         b"... "
     } else {
         b"    "
@@ -142,10 +164,15 @@ fn lead<'a>(at: usize, line: Line) -> &'a [u8]
 
 /// What stands to the right of it.
 fn tail<'a>(at: usize, line: Line) -> &'a [u8]
-    requires { at < 2 ^ 63 }
+    requires around { (line.start ≤ at) × (at ≤ line.end) }
+    requires small { at < 2 ^ 63 }
     ensures { result.now ≡ tail at line }
 {
-    if at + 30 < line.end { b" ..." } else { b"" }
+    if right_of(at, line) < line.end {
+        b" ..."
+    } else {
+        b""
+    }
 }
 
 /// Adds a line of a file, cut to what stands near a place.
@@ -179,7 +206,7 @@ pub fn add_place(
 ) -> Result<(), AllocError>
     requires { at ≤ length bytes.now }
     ensures { OnOk result ((line : LineValue) × IsLineAt bytes.now at line
-        × (screen.new ≡ screen.old ++ (heading_text name.now line.number (at - line.start + 1) ++ (line_text bytes.now at line ++ caret_text bytes.now at line)))) }
+        × (screen.new ≡ screen.old ++ place_text name.now bytes.now at line)) }
 {
     let line = line_at(bytes, at);
     add_heading(screen, name, line.number, at - line.start + 1)?;

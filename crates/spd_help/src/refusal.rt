@@ -1,5 +1,7 @@
 //! What a person is told of a file that is refused.
-ghost use Rattle.std.specs.Prelude.{◌≤◌, length};
+ghost use Rattle.std.specs.Prelude.{◌≡◌, ◌≤◌, ◌+◌, ◌-◌, ◌++◌, List, ℕ, length, OnOk};
+ghost use Rattle.spd_help.specs.Lines.{ShowsPlace};
+ghost use Rattle.spd_help.specs.Places.{place_of};
 
 use crate::expected::tell_expected;
 use crate::names::{tell_branch, tell_primed, tell_tree, tell_twice, tell_unknown};
@@ -63,7 +65,7 @@ fn tell(
         Refusal::Negative { at } => screen.line(&[quantity_of(source, source.at(at)).least()]),
         Refusal::TooMany { what, .. } => screen.line(&[limit_sentence(what)]),
         Refusal::LeftOut { .. } => screen.line(&[
-            b"  This word of the SPUDD format isn't taken: a result is one for all states, seen and unseen.",
+            b"  This word of the SPUDD format isn't taken: states to begin in, observations, products and differences of trees.",
         ]),
         Refusal::Unknown { at } => tell_unknown(alloc, screen, source, source.at(at)),
         Refusal::Twice { at } => tell_twice(screen, bytes, source, source.at(at)),
@@ -74,7 +76,9 @@ fn tell(
 }
 
 /// The place of a refusal.
-fn place_of(refusal: Refusal) -> usize {
+fn place_of(refusal: Refusal) -> usize
+    ensures { result ≡ place_of refusal }
+{
     match refusal {
         Refusal::BadByte { at }
         | Refusal::Expected { at, .. }
@@ -92,20 +96,31 @@ fn place_of(refusal: Refusal) -> usize {
     }
 }
 
-/// Adds where a file is refused, and a sentence that says what would mend it. A place behind the file's end, as it comes where the file
-/// has changed since it was read, adds nothing.
+/// What would mend a file, by why it is refused.
+fn advice(alloc: Global, bytes: &[u8], refusal: Refusal) -> Result<Screen, AllocError> {
+    let mut screen = Screen::new(alloc);
+    let source = source_of(alloc, bytes)?;
+    tell(alloc, &mut screen, bytes, &source, refusal)?;
+    Ok(screen)
+}
+
+/// Adds where a file is refused, and behind it a sentence that says what would mend it. A place behind the file's end, as it comes where the
+/// bytes aren't those that were refused, adds nothing.
 pub fn tell_refusal(
     alloc: Global,
     screen: &mut Screen,
     name: &[u8],
     bytes: &[u8],
     refusal: Refusal,
-) -> Result<(), AllocError> {
+) -> Result<(), AllocError>
+    ensures place { OnOk result (place_of refusal ≤ length bytes.now → ShowsPlace name.now bytes.now (place_of refusal) screen.old screen.new) }
+    ensures elsewhere { length bytes.now + 1 ≤ place_of refusal → screen.new ≡ screen.old }
+{
     let at = place_of(refusal);
     if at > bytes.len() {
         return Ok(());
     }
+    let advice = advice(alloc, bytes, refusal)?;
     add_place(screen, name, bytes, at)?;
-    let source = source_of(alloc, bytes)?;
-    tell(alloc, screen, bytes, &source, refusal)
+    screen.append(&advice)
 }

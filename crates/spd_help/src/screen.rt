@@ -99,6 +99,13 @@ impl Screen {
         Ok(())
     }
 
+    /// Adds what stands on another screen.
+    pub fn append(&mut self, other: &Screen) -> Result<(), AllocError>
+        ensures { OnOk result (self.new ≡ self.old ++ other.now) }
+    {
+        self.text.extend_from_slice(other.as_slice())
+    }
+
     /// Adds the end of a line.
     pub fn end_line(&mut self) -> Result<(), AllocError>
         ensures { OnOk result (self.new ≡ self.old ++ 10 ∷ []) }

@@ -49,13 +49,39 @@ impl Told<'_> {
     }
 }
 
-/// Why the system doesn't open a file or read it, asked anew.
+/// Why the system doesn't open a file or read it, asked anew. Nothing is known of standard input, and no file is opened where that may wait.
 fn fault_of<R: Files>(rt: &R, name: &[u8]) -> Option<io::ErrorKind> {
-    let path = str::from_utf8(name).ok()?;
+    if name == b"-".as_slice() {
+        return None;
+    }
+    let Ok(path) = str::from_utf8(name) else {
+        return Some(io::ErrorKind::InvalidInput);
+    };
     match fs::metadata(rt, path) {
         Ok(metadata) if metadata.is_dir() => Some(io::ErrorKind::IsADirectory),
+        Ok(metadata) if metadata.is_file() => match fs::open(rt, path) {
+            Ok(_) => None,
+            Err(error) => Some(error.kind()),
+        },
         Ok(_) => None,
         Err(error) => Some(error.kind()),
+    }
+}
+
+/// Adds why the system doesn't open a file or read it, where that is known.
+fn tell_fault<R: Files>(rt: &R, screen: &mut Screen, name: &[u8]) -> Result<(), AllocError> {
+    match fault_of(rt, name) {
+        Some(kind) => tell_system(screen, kind),
+        None => Ok(()),
+    }
+}
+
+/// The name under which a person knows a file.
+fn shown_name(name: &[u8]) -> &[u8] {
+    if name == b"-".as_slice() {
+        b"standard input"
+    } else {
+        name
     }
 }
 
@@ -67,16 +93,13 @@ pub(crate) fn tell<R: Files>(
     status: &Status,
     told: Told<'_>,
 ) -> Result<(), AllocError> {
-    let (name, turns) = told.file().unwrap_or((b"", 0));
+    let (file, turns) = told.file().unwrap_or((b"", 0));
+    let name = shown_name(file);
     match status {
         Status::Usage { word } => tell_usage(screen, told.words, *word),
-        Status::OpenFault { name } | Status::ReadFault { name } => match fault_of(
-            rt,
-            name.as_slice(),
-        ) {
-            Some(kind) => tell_system(screen, kind),
-            None => Ok(()),
-        },
+        Status::OpenFault { name } | Status::ReadFault { name } => {
+            tell_fault(rt, screen, name.as_slice())
+        }
         Status::Refused { refusal } => tell_refusal(alloc, screen, name, told.bytes, *refusal),
         Status::Sum {
             action,
@@ -102,6 +125,13 @@ pub(crate) fn tell<R: Files>(
             let is_turn = matches!(stage, Stage::Turn(_));
             tell_node_limit(screen, told.goal(alloc), is_turn, *limit)
         }
-        _ => Ok(()),
+        Status::TooLong { .. } => screen.line(&[b"  A model file has at most 4194304 bytes."]),
+        Status::TooManyStates { .. } => {
+            screen.line(&[b"  `plain` takes at most 4096 states, `solve` any number of them."])
+        }
+        Status::Range { .. } => screen.line(&[
+            b"  A reward minus the action's cost is at most 1000000000 above or below zero.",
+        ]),
+        Status::Done | Status::WriteFault | Status::Memory => Ok(()),
     }
 }
