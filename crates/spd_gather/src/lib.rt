@@ -9,11 +9,13 @@
 pub mod halves;
 pub mod make;
 pub mod pool;
+mod rows;
 pub mod rule;
 pub mod table;
 
 pub use halves::{Sides, split};
 pub use make::make_list;
 pub use pool::Pool;
+pub use rows::ListHash;
 pub use rule::{ListPlan, ListRule};
-pub use table::{ListHash, Table};
+pub use table::{SHORT, Table};

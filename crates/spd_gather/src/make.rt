@@ -5,8 +5,9 @@ ghost use Rattle.spd_nodes.specs.Shown.{Shown, MakesTree};
 ghost use Rattle.spd_gather.specs.Lists.{trees_of, IsListAnswer, HoldsRows, IsListReady};
 
 use crate::pool::Pool;
+use crate::rows::ListHash;
 use crate::rule::{ListPlan, ListRule};
-use crate::table::{ListHash, Table};
+use crate::table::Table;
 use spd_apply::OpFault;
 use spd_nodes::{Forest, Ref, Steps};
 use std::alloc::Global;

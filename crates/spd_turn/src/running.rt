@@ -92,13 +92,18 @@ fn make_turn<G: Gate, R: Threads + Sync, L: Ledger>(
     )
 }
 
-/// The room with which a turn begins, after one that made so many nodes: about twice as many, and at least 1,024, but no more than `nodes`.
+/// Below how many nodes a turn's successor may need many times as many: the first turns of a run grow fast.
+const FEW_NODES: usize = 8_192;
+
+/// The room with which a turn begins, after one that made so many nodes: twice as many, or eight times where these were few, and at
+/// least 1,024, but no more than `nodes`.
 fn room_after(made: usize, nodes: u32) -> u32
     requires { 16 ≤ nodes }
     ensures low { 16 ≤ result }
     ensures high { result ≤ nodes }
 {
-    made.saturating_mul(2).max(1024).min(nodes as usize) as u32
+    let times = if made < FEW_NODES { 8 } else { 2 };
+    made.saturating_mul(times).max(1024).min(nodes as usize) as u32
 }
 
 impl<'a> Run<'a> {

@@ -7,3 +7,4 @@ pub mod SlotLaws
 pub mod TopLaws
 pub mod DiscountLaws
 mod Rows
+pub mod ShortLaws

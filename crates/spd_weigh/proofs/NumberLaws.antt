@@ -1,5 +1,5 @@
 -- Weighed sums are in range.
-use Rattle.std.proofs.Common.{◌≡◌, ℕ, zero, suc, ◌+◌, ◌<◌, ◌≤◌, ◌&&◌, ◌||◌, true, List, [], ◌∷◌, length, get_or, drop, map, inl, inr, refl, arith, ℤ, pos, ◌+ℤ◌, ◌*ℤ◌, ◌≤ℤ◌, FitsSigned, neg_ℤ}
+use Rattle.std.proofs.Common.{◌≡◌, ◌∙◌, ℕ, zero, suc, ◌+◌, ◌<◌, ◌≤◌, ◌&&◌, ◌||◌, true, List, [], ◌∷◌, length, get_or, drop, map, inl, inr, refl, arith, ℤ, pos, ◌+ℤ◌, ◌*ℤ◌, ◌≤ℤ◌, FitsSigned, neg_ℤ}
 use Rattle.std.specs.Int.{w128}
 use Rattle.std.specs.Prelude.{int_le}
 use Rattle.std.specs.Ordering.{int_eq}
@@ -113,3 +113,15 @@ sum-goes s ks at d e w f b h t i j =
     let two = drop-two ks at d e b in
     let q = sum-step (last_leaf (s.tree (get_or ks at d))) (last_leaf (s.tree (get_or ks (at + 1) e))) (leaves_of s (drop (at + 2) ks)) (rw two at h) (rw two at t) in
     record { rest_fits = q.rest_fits; rest_total = q.rest_total; product_fits = rw (i, j) q.product_fits; sum_fits = rw (i, j) q.sum_fits; sum_is = rw (i, j, two) refl }
+
+-- where the weight is 0 the value isn't asked for
+pub sum-skips : (s : Shown) (ks : List Entry) (at : ℕ) (d : Entry) (w : ℤ) → at + 1 < length ks → each_fits (leaves_of s (drop at ks)) ≡ true → weights (leaves_of s (drop at ks)) ≤ℤ one
+    → w ≡ number_of (last_leaf (s.tree (get_or ks at d))) → w ≡ pos 0
+    → (each_fits (leaves_of s (drop (at + 2) ks)) ≡ true) × (weights (leaves_of s (drop (at + 2) ks)) ≤ℤ one) × (products (leaves_of s (drop (at + 2) ks)) ≡ products (leaves_of s (drop at ks)))
+sum-skips s ks at d w b h t i z =
+    let f = number_of (last_leaf (s.tree (get_or ks (at + 1) d))) in
+    let rest = products (leaves_of s (drop (at + 2) ks)) in
+    let q = sum-goes s ks at d d w f b h t i refl in
+    let none : w *ℤ f ≡ pos 0 = rw z (zero-*ℤ f) in
+    let is : rest ≡ (w *ℤ f) +ℤ rest = rw none (omega (arith, ints)) in
+    (q.rest_fits, q.rest_total, is ∙ q.sum_is)

@@ -136,6 +136,12 @@ module _ (way : Way) (levels first end : ℕ) (s : Shown) (o : IsSound s) (ks : 
           no_smaller = omega (arith, r.1, ranks.0, rn);
         }
 
+    -- taken at the slot all are past it
+    pub past-slot : first ≤ l.0 → l.0 < end → Each (IsNotBefore end) (taken first end 0 ts)
+    past-slot a b =
+        let come = meet-slot ds may.slot first end may.is_slot l.0 ts reduced may.meet low a b in
+        each-weaker (λ t. IsReduced ds 0 t × IsFrom ds 0 end t) (IsNotBefore end) (λ t c. not-before-from ds end end t (omega arith) c.1) _ (taken-all ds may.slot first end may.is_slot 0 ts come)
+
     -- in the slot
     pub plans-slot : first ≤ l.0 → l.0 < end → (below : List Entry) → AreKnown s below → IsLike (taken first end 0 ts) (trees_of s below)
         → GoesBelow making (MaySum levels first end s.sizes) s ks below

@@ -103,6 +103,12 @@ pub record MaySum (levels first end : ℕ) (sizes : List ℕ) (ts : List Tree) :
   pub meet : Meet (slots sizes) first end ts
   pub all_fit : summed levels first end fit_mark ts ≡ Ends (Act 1)
 
+-- the same list, but that a weight of 0 may have gone with its value
+abbrev pub IsShorter : {A : Type 0} → A → List A → List A → Type 0
+IsShorter zero [] us = us ≡ []
+IsShorter zero (w ∷ []) us = us ≡ w ∷ []
+IsShorter {A = A} zero (w ∷ f ∷ ts) us = ((w ≡ zero) × IsShorter zero ts us) ⊎ ((vs : List A) × (us ≡ w ∷ f ∷ vs) × IsShorter zero ts vs)
+
 -- each weight's entry beside the function's
 abbrev pub beside : List Entry → Entry → List Entry
 beside [] f = []

@@ -78,7 +78,7 @@ pub fn sum_out_with<F: Forest, L: Ledger>(
 /// other variables.
 ///
 /// It makes only nodes of its answer. Full comes only where a call of the forest answered Full in this call. Its table has at most
-/// `memo_size` places. Calls nest at most two deep a level and 64 deep besides, and there are at most 512 levels.
+/// `memo_size` places for lists of all values, and as many for those that are left of two. Calls nest at most two deep a level and 64 deep besides, and there are at most 512 levels.
 pub fn sum_out<F: Forest, L: Ledger>(
     alloc: Global,
     forest: &mut F,

@@ -1,6 +1,6 @@
 //! How summing out goes down from a list of weights and values.
 
-ghost use Rattle.std.specs.Prelude.{◌≡◌, ◌⊎◌, ℕ, ◌<◌, ◌≤◌, ◌+◌, ◌*◌, ◌/◌, ◌^◌, List, map, drop, take, length, IfOk, IfSome, All, Contains, None, true, IsTrue, pos, ◌≤ℤ◌, ◌*ℤ◌};
+ghost use Rattle.std.specs.Prelude.{◌≡◌, ◌⊎◌, ℕ, ◌<◌, ◌≤◌, ◌+◌, ◌*◌, ◌/◌, ◌^◌, List, [], ◌∷◌, ◌++◌, map, drop, take, length, IfOk, IfSome, All, Contains, None, true, IsTrue, pos, ◌≤ℤ◌, ◌*ℤ◌};
 ghost use Rattle.spd_model.specs.Chances.{one};
 ghost use Rattle.spd_nodes.specs.Levels.{levels_of, slots};
 ghost use Rattle.spd_nodes.specs.Shown.{Shown, IsSound, KnowsAs, MakesTree};
@@ -10,11 +10,11 @@ ghost use Rattle.spd_restrict.specs.Restricted.{cofactored};
 ghost use Rattle.spd_gather.specs.Down.{Each, last_leaf};
 ghost use Rattle.spd_gather.specs.Lists.{trees_of, AreKnown, AreMet, IsListPlan};
 ghost use Rattle.spd_weigh.specs.Leaves.{number_of as number_at};
-ghost use Rattle.spd_weigh.specs.Summed.{summed, taken, weighed, MaySum, IsAlone, IsLike, AreCleared, zero_tree, each_fits, fit, weights, products};
+ghost use Rattle.spd_weigh.specs.Summed.{summed, taken, weighed, MaySum, IsAlone, IsLike, AreCleared, zero_tree, IsShorter, each_fits, fit, weights, products};
 
 use crate::way::Way;
 use spd_apply::OpFault;
-use spd_gather::{ListPlan, ListRule, Pool, split};
+use spd_gather::{ListPlan, ListRule, Pool, SHORT, split};
 use spd_nodes::{Forest, Leaf, Ref, Steps, View};
 use spd_scaled::{ceil_div, floor_div};
 use std::alloc::AllocError;
@@ -118,6 +118,63 @@ pub fn clear<F: Forest>(forest: &mut F, list: &mut Vec<Ref>, zero: Option<Ref>) 
         zero = clear_value(forest, list, v, zero);
     }
     zero
+}
+
+/// One more weight with its value, where there is room and memory.
+fn push_pair(short: &mut Vec<Ref>, weight: Ref, value: Ref) -> bool
+    ensures { IsTrue result → short.new.items ≡ short.old.items ++ weight ∷ value ∷ [] }
+{
+    short.len() < SHORT && short.push(weight).is_ok() && short.push(value).is_ok()
+}
+
+/// The same, but a weight of 0 goes with its value.
+fn add_pair(short: &mut Vec<Ref>, zero: Ref, weight: Ref, value: Ref) -> bool
+    ensures { IsTrue result → ((weight ≡ zero) × (short.new.items ≡ short.old.items)) ⊎ (short.new.items ≡ short.old.items ++ weight ∷ value ∷ []) }
+{
+    if weight == zero {
+        return true;
+    }
+    push_pair(short, weight, value)
+}
+
+/// The weights that aren't 0 with their values, where they make a short list.
+fn weighed_pairs(list: &[Ref], zero: Ref, short: &mut Vec<Ref>) -> bool
+    requires empty { short.old.items ≡ [] }
+    ensures known { IsTrue result → (s : Shown) → AreKnown s list.now → AreKnown s short.new.items }
+    ensures shorter { IsTrue result → (s : Shown) → s.tree zero ≡ zero_tree → IsShorter zero_tree (trees_of s list.now) (trees_of s short.new.items) }
+{
+    if list.len() % 2 == 1 {
+        return false;
+    }
+    for v in 0..list.len() / 2 {
+        if !add_pair(short, zero, list[2 * v], list[2 * v + 1]) {
+            return false;
+        }
+    }
+    true
+}
+
+/// The list without its weights of 0 and their values, where a short list is left. Only past the slot nothing hangs on the place of a
+/// value. Where 0 isn't known no weight is 0.
+#[tactic(auto, using(crate::proofs::ShortLaws::short_laws))]
+fn shorten(list: Vec<Ref>, zero: Option<Ref>, pool: &mut Pool) -> Vec<Ref>
+    ensures known { (s : Shown) → AreKnown s list.items → AreKnown s result.items }
+    ensures shorter { (s : Shown) → IfSome zero (λ z. KnowsAs s z zero_tree) → IsShorter zero_tree (trees_of s list.items) (trees_of s result.items) }
+{
+    let Some(zero) = zero else {
+        return list;
+    };
+    if list.len() <= SHORT {
+        return list;
+    }
+    let mut short = pool.take();
+    if weighed_pairs(list.as_slice(), zero, &mut short) {
+        pool.give(list);
+        short
+    } else {
+        pool.give(short);
+        list
+    }
 }
 
 /// The one value that stands behind all weights, but those that stand in their values' places. No Ref is viewed.
@@ -238,6 +295,9 @@ fn sum_products<F: Forest>(forest: &mut F, list: &[Ref], at: usize) -> i128
         return 0;
     }
     let w = number_of(forest, list[at]);
+    if w == 0 {
+        return sum_products(forest, list, at + 2);
+    }
     let f = number_of(forest, list[at + 1]);
     let sum = sum_products(forest, list, at + 2);
     w * f + sum
@@ -289,19 +349,27 @@ impl ListRule for Weighing {
                 Ok(ListPlan::Bottom)
             }
             Some(level) => {
-                if self.first <= level.0 && level.0 < self.end {
-                    pool.give(sides.yes);
-                    pool.give(sides.no);
-                    let mut below = at_slot(forest, list, self.first, self.end, pool)?;
-                    clear(forest, &mut below, None);
-                    Ok(ListPlan::Below(below))
-                } else {
+                if level.0 < self.first {
                     let zero = clear(forest, &mut sides.yes, None);
                     clear(forest, &mut sides.no, zero);
                     Ok(ListPlan::Test {
                         level,
                         yes: sides.yes,
                         no: sides.no,
+                    })
+                } else if level.0 < self.end {
+                    pool.give(sides.yes);
+                    pool.give(sides.no);
+                    let mut below = at_slot(forest, list, self.first, self.end, pool)?;
+                    let zero = clear(forest, &mut below, None);
+                    Ok(ListPlan::Below(shorten(below, zero, pool)))
+                } else {
+                    let zero = clear(forest, &mut sides.yes, None);
+                    let zero = clear(forest, &mut sides.no, zero);
+                    Ok(ListPlan::Test {
+                        level,
+                        yes: shorten(sides.yes, zero, pool),
+                        no: shorten(sides.no, zero, pool),
                     })
                 }
             }

@@ -1,11 +1,10 @@
-use Rattle.std.proofs.Common.{sym, ◌∙◌, arith, rules, ◌≡◌, ◌<◌, length, take, drop, ◌*◌, Some}
-use Rattle.spd_gather.proofs.PlaceLaws.{row-found}
+use Rattle.std.proofs.Common.{List, subst}
+use Rattle.std.specs.Prelude.{Contains}
+use Rattle.std.proofs.lemmas.List.Elements.{Contains-append_right}
+use Rattle.std.proofs.lemmas.Option.{IfSome_then}
+use Rattle.spd_gather.specs.Rows.{Row}
 use Rattle.spd_gather.proofs.table.Table.get.Goals as goal
 
-pub returns-then-is_same : goal.returns-then-is_same
-returns-then-is_same c =
-    let i = c.self.inside in
-    let key : take i.width (drop (c.place-at.result * i.width) i.keys.items) ≡ c.args.list.now = sym (rw c.as_slice.ensures.value at c.list_at.ensures) ∙ c.is_same.ensures c.if-is_same.true in
-    let near : c.place-at.result < length i.answers.items = search (rules, arith) in
-    let some : c.index.result.now ≡ Some c.in_ok-r.r = search rules in
-    row-found i.width i.keys.items i.answers.items c.args.self.now c.place-at.result c.index.result.now c.args.list.now c.in_ok-r.r c.self.view_is near (search rules) some key
+pub returns-then-list-eq-SHORT : goal.returns-then-list-eq-SHORT
+returns-then-list-eq-SHORT c =
+    IfSome_then c.get.result c.get.ensures (λ r m. subst (λ (l : List Row). Contains l (c.args.list.now, r)) c.self.view_is (Contains-append_right c.self.inside.long c.self.inside.short (c.args.list.now, r) m))

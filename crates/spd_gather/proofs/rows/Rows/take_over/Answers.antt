@@ -2,8 +2,8 @@ use Rattle.std.proofs.Common.{sym, arith, rules, ◌≡◌, ◌<◌, ◌*◌, Li
 use Rattle.std.specs.Prelude.{Contains}
 use Rattle.spd_gather.specs.Rows.{Row}
 use Rattle.spd_gather.proofs.PlaceLaws.{row-found}
-use Rattle.spd_gather.proofs.table.Table.take_over.Goals.{in-Some, in_default}
-use Rattle.spd_gather.proofs.table.Table.take_over.Goals as goal
+use Rattle.spd_gather.proofs.rows.Rows.take_over.Goals.{in-Some, in_default}
+use Rattle.spd_gather.proofs.rows.Rows.take_over.Goals as goal
 
 pub loop-at-preserved : goal.loop-at-preserved
 loop-at-preserved c row m =

@@ -1,5 +1,5 @@
 use Rattle.std.proofs.Common.{◌≡◌, None, All, length}
-use Rattle.spd_gather.proofs.table.Table.with_places.Given as goal
+use Rattle.spd_gather.proofs.rows.Rows.with_places.Given as goal
 
 abbrev pub invariant-loop : goal.invariant-loop
 invariant-loop l = record {

@@ -1,7 +1,7 @@
 use Rattle.std.proofs.Common.{arith, List, subst, inl, inr}
 use Rattle.std.specs.Prelude.{Contains}
 use Rattle.spd_gather.specs.Rows.{Row}
-use Rattle.spd_gather.proofs.table.Table.make_room.Goals as goal
+use Rattle.spd_gather.proofs.rows.Rows.make_room.Goals as goal
 
 pub returns-in-Ok : goal.returns-in-Ok
 returns-in-Ok c row m =

@@ -1,5 +1,5 @@
 use Rattle.std.proofs.Common.{◌≡◌, take}
-use Rattle.spd_gather.proofs.table.is_same.Given as goal
+use Rattle.spd_gather.proofs.rows.is_same.Given as goal
 
 abbrev pub invariant-loop-i : goal.invariant-loop-i
 invariant-loop-i l = take l.i l.fn.a ≡ take l.i l.fn.b

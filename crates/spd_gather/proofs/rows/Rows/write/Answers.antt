@@ -1,6 +1,6 @@
 use Rattle.std.proofs.Common.{arith, rules, ◌≡◌, ◌<◌, length}
 use Rattle.spd_gather.proofs.PlaceLaws.{rows-write}
-use Rattle.spd_gather.proofs.table.Table.write.Goals as goal
+use Rattle.spd_gather.proofs.rows.Rows.write.Goals as goal
 
 pub returns : goal.returns
 returns c =
