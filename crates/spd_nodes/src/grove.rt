@@ -204,6 +204,7 @@ impl<'a> Forest for Grove<'a> {
         )
     }
 
+    #[inline(always)]
     fn view(&mut self, r: Ref) -> View {
         view_of(self.cons.read(&mut self.seat, r))
     }
