@@ -16,6 +16,8 @@ mod outside;
 #[cfg(test)]
 mod refused;
 #[cfg(test)]
+mod rings;
+#[cfg(test)]
 mod solved;
 #[cfg(test)]
 mod texts;
