@@ -89,6 +89,7 @@ fails "a name that begins with a dash" 2 "usage: word 1" 'spudd solve --help'
 fails "a word too many" 2 "usage: word 2" 'spudd solve model more'
 fails "a word too many after a name that isn't UTF-8" 2 "usage: word 2" 'spudd solve "$(printf "\\377")" more'
 fails "a page with a word" 2 "usage: word 0" 'spudd --version more'
+fails "a page's short name with a word" 2 "usage: word 0" 'spudd help -h'
 
 # The models of tests/small, whose results an independent calculation gave.
 for file in "$root"/tests/small/*.spudd; do
@@ -111,10 +112,9 @@ done
 
 # Refused files, prefixes, examples, command words, both ways to solve, and rings, which scripts of their own compare with references.
 if command -v python3 >/dev/null; then
-    for script in refused words diagrams ring; do
+    for script in refused words diagrams ring mistakes; do
         python3 "$root/tests/$script/run.py" "$root/crates/spudd/out/spudd" || failed=1
     done
-    python3 "$root/tests/mistakes/run.py" "$root/crates/spudd/out/spudd" --pipe || failed=1
     python3 "$root/tests/show/run.py" || failed=1
 else
     echo "skipped tests/refused, tests/words, tests/diagrams, tests/ring, tests/mistakes and tests/show: there is no python3"
@@ -124,7 +124,7 @@ fi
 "$root/tests/script/run.sh" || failed=1
 
 echo "spudd 0.1.0" >"$scratch/version"
-succeeds "--version" "$scratch/version" 'spudd --version'
-succeeds "--help" "$root/tests/help.txt" 'spudd --help'
+for word in -V --version version; do succeeds "$word" "$scratch/version" "spudd $word"; done
+for word in -h --help help; do succeeds "$word" "$root/tests/help.txt" "spudd $word"; done
 
 exit $failed

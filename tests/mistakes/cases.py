@@ -32,10 +32,10 @@ SUM = "sum of action repair, variable machine at machine=up is "
 
 # The name, the old text, the new one, the words of the refusal, and what a terminal shows.
 REFUSED = [
-    ("a bracket missing", "(down (0.05)))\ncost", "(down (0.05))\n@cost", "expected close", ["A closing bracket is missing", "1 of them"]),
+    ("a bracket missing", "(down (0.05)))\ncost", "(down (0.05))\n@cost", "expected close", ["A closing bracket is missing", "where 1 of those before it are open"]),
     ("a bracket missing at the end of a reward", "(down (0)))\n", "(down (0))\n@", "expected close", ["A closing bracket is missing"]),
-    ("a bracket too many behind a reward", "(down (0)))\n", "(down (0)))@)\n", "expected section", ["A bracket too many"]),
-    ("a bracket too many in an action", "(down (0.05)))\n", "(down (0.05)))@)\n", "expected name", ["A bracket too many"]),
+    ("a bracket too many behind a reward", "(down (0)))\n", "(down (0)))@)\n", "expected section", ["one bracket too many"]),
+    ("a bracket too many in an action", "(down (0.05)))\n", "(down (0.05)))@)\n", "expected name", ["one bracket too many"]),
     ("a cost without brackets", "cost (2)", "cost @2", "expected open", ["in brackets: `(2)`"]),
     ("a reward without brackets", "(up (10))", "(up @10)", "expected open", ["in brackets: `(10)`"]),
     ("a missing endaction", "endaction\naction", "@action", "expected name", ["`endaction` is missing before `action`"]),

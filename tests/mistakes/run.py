@@ -30,12 +30,14 @@ WORDS = [
     (["solve", "missing"], 3, "cannot open missing", ["There is no such file or folder."]),
     (["solve", "folder"], 3, "cannot read folder", ["It is a folder."]),
     (["solve", "model/part"], 3, "cannot open model/part", ["A part of the path is a file and no folder."]),
-    (["solve", "model", "--turns", "3"], 8, "turn limit reached, residual 5.797413507", ["at most 0.005. It is met for sure with --turns 70."]),
+    (["solve", "model", "--turns", "3"], 8, "turn limit reached, residual 5.797413507", ["at most 0.005.", "--turns 70"]),
+    (["solve", "model", "--nodes", "16"], 9, "node limit 16 passed in building", ["try --nodes 64"]),
+    (["solve", "-"], 5, "refused at byte 0: expected variables", ["  standard input, line 1, column 1", "A file begins with its variables"]),
 ]
 
 
 # After how many turns the run that shows its progress ends.
-TURNS = 4000
+TURNS = 1000
 
 # What takes a line away at a terminal.
 ERASE = b"\r\x1b[K"

@@ -10,3 +10,5 @@ pub mod NodeLaws
 pub mod CertLaws
 pub mod Loops
 pub mod NamingLaws
+pub mod CleanLaws
+pub mod ReadBackLaws

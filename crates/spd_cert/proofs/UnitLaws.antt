@@ -1,11 +1,14 @@
 -- Decimals as numbers of units: how large they are.
-use Rattle.std.proofs.Common.{◌≡◌, ℕ, zero, suc, ◌+◌, ◌*◌, ◌/◌, ◌%◌, ◌^◌, ◌≤◌, Bool, true, false, cond, eqb, leb, List, Option, Some, None, Result, Ok, Err, ℤ, pos, negsuc, unsigned_abs, refl, ap, subst, ◌∙◌}
-use Rattle.std.proofs.lemmas.Bool.{leb-true}
+use Rattle.std.proofs.Common.{◌≡◌, ℕ, zero, suc, ◌+◌, ◌*◌, ◌/◌, ◌%◌, ◌^◌, ◌≤◌, Bool, true, false, cond, eqb, leb, List, Option, Some, None, Result, Ok, Err, ℤ, pos, negsuc, unsigned_abs, inl, refl, sym, ap, subst, ◌∙◌}
+use Rattle.std.proofs.lemmas.Bool.{leb-true, le-leb}
 use Rattle.spd_scaled.specs.declared.decimal.Decimal.{Decimal}
 use Rattle.spd_scaled.specs.declared.decimal.Scale.{Scale}
 use Rattle.spd_scaled.specs.declared.decimal.Scale.TheVariants.{TooFine, TooLarge}
 use Rattle.spd_scaled.specs.Decimal.{with_sign}
 use Rattle.spd_scaled.specs.DecimalReading.{decimal_of, limited, divided_by, units_from, signed_step, scaled_of}
+use Rattle.spd_scaled.proofs.CallerLemmas.{decimal_of-every, units_from-AreUnits, read_back}
+use Rattle.spd_scaled.proofs.CallerLemmas.Magnitude.{IsWithin-from_abs}
+use Rattle.spd_model.specs.ResultText.{units}
 use Rattle.spd_cert.specs.Words.{units_from as units_read, units_of}
 
 limited_few : (k n : ℕ) → limited k ≡ Ok n → n ≤ 10 ^ 30
@@ -51,3 +54,14 @@ units_are_few w x e = by (decimal_of w) e
     by : (o : Option Decimal) → units_read o ≡ Some x → unsigned_abs x ≤ 10 ^ 30
     by None e = absurd cc
     by (Some d) e = scaled d (scaled_of 9 d) refl e
+
+-- the text of at most 10^30 units is read as that many
+pub units_back : (n : ℤ) → unsigned_abs n ≤ 10 ^ 30 → units_of (units n) ≡ Some n
+unfolding units_of scaled_of
+units_back n few =
+    let back = read_back 9 n (inl refl) (IsWithin-from_abs (10 ^ 30) n few) in
+    let d = back.0 in
+    let k = back.2.0 in
+    let limits : limited k ≡ Ok k = ap (λ b. cond b (Ok k) (Err TooLarge)) (le-leb k (10 ^ 30) back.2.2) in
+    let scaled : scaled_of 9 d ≡ Ok n = ap (signed_step d.negative) (units_from-AreUnits 9 k d.digits d.places back.2.1 ∙ limits) ∙ ap (λ (x : ℤ). Ok x) (sym back.2.3) in
+    ap units_read (decimal_of-every (units n) d back.1) ∙ ap (λ (r : Result ℤ Scale). elim r [ Ok y ↦ Some y | Err s ↦ None ]) scaled

@@ -1,6 +1,7 @@
 -- Which certificates fit a model.
 use Rattle.std.specs.Prelude.{ℕ, ◌≡◌, ◌≤◌, ◌^◌, List, length, ℤ, pos, ◌≤ℤ◌, Option, Some, None}
 use Rattle.hex.specs.Hex.{IsBytes}
+use Rattle.spd_model.specs.declared.Why.{Why}
 use Rattle.spd_model.specs.Process.{Process}
 use Rattle.spd_frozen.specs.Frozen.{IsFrozen}
 use Rattle.spd_frozen.specs.Fits.{FitsModel as FitsIterate}
@@ -15,6 +16,22 @@ iterate_of c = record {
   policy = c.policy;
   residual = record { r = c.residual; at = c.place; side = c.side; action = c.action };
   error = c.error;
+}
+
+-- the certificate of version 2 that tells a turn, of a model whose file has this digest
+abbrev pub cert_of : List ℕ → Why → Iterate → Cert
+cert_of digest why x = record {
+  version = 2;
+  digest = Some digest;
+  turn = x.turn;
+  why = why;
+  residual = x.residual.r;
+  place = x.residual.at;
+  side = x.residual.side;
+  action = x.residual.action;
+  error = x.error;
+  value = x.value;
+  policy = x.policy;
 }
 
 -- a text of version 2 names the digest of the model's file, 32 bytes, and one of version 1 doesn't

@@ -9,6 +9,7 @@ mod cert;
 mod digest;
 mod ending;
 mod head;
+mod law;
 mod names;
 mod nodes;
 mod numbers;
@@ -20,6 +21,7 @@ mod writer;
 
 pub use cert::Cert;
 pub use digest::cert_digest;
+pub use law::law_read_back;
 pub use reader::read_cert;
 pub use refusal::{CertRefusal, Uncert};
 pub use writer::write_cert;

@@ -1,12 +1,14 @@
 //! Writing a certificate.
 
-ghost use Rattle.std.specs.Prelude.{◌≡◌};
+ghost use Rattle.std.specs.Prelude.{◌≡◌, Ok};
 ghost use Rattle.spd_model.specs.ResultText.{text_of};
 ghost use Rattle.spd_frozen.specs.Told.{told};
 ghost use Rattle.spd_text.specs.Writing.{Wrote, Counted};
-ghost use Rattle.spd_cert.specs.Certificates.{FitsModel, iterate_of};
+ghost use Rattle.spd_cert.specs.Certificates.{FitsModel, iterate_of, cert_of};
+ghost use Rattle.spd_cert.specs.Reading.{judged};
 
 use crate::cert::Cert;
+use crate::law::law_read_back;
 use spd_edge::{Failed, Sink};
 use spd_frozen::{Iterate, Residual};
 use spd_model::Model;
@@ -26,9 +28,14 @@ pub fn write_cert<K: Sink>(
 ) -> Result<(), Failed>
     requires { FitsModel model.now cert }
     ensures text { Wrote (K.taken k.old) (text_of digest.now model.now cert.why (told (iterate_of cert))) result (K.taken k.new) }
+    // The text is read back: as the same certificate, of version 2 and with this digest.
+    ensures read { judged model.now (text_of digest.now model.now cert.why (told (iterate_of cert))) ≡ Ok (cert_of digest.now cert.why (iterate_of cert)) }
     ensures count { Counted (K.faults k.old) result (K.faults k.new) }
     ensures named { K.name k.new ≡ K.name k.old }
 {
+    // Reading a field tells the proof what every model keeps.
+    let _vars = &model.vars;
+    law_read_back();
     let Cert {
         turn,
         why,

@@ -1,3 +1,4 @@
+mod BuildingLaws
 mod CheckLaws
 mod CountLaws
 mod FirstLaws

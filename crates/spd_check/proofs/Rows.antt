@@ -11,7 +11,7 @@ use Rattle.spd_nodes.specs.declared.leaf.Leaf.TheVariants.{Num, Pair, Act}
 use Rattle.spd_check.specs.declared.verdict.Verdict.{Verdict}
 use Rattle.spd_check.specs.declared.verdict.Verdict.TheVariants.{Yes, No}
 use Rattle.spd_check.specs.Certificates.{first_failure, policy_by, value_by, verdict_of}
-use Rattle.spd_check.specs.Functions.{own_among}
+use Rattle.spd_check.specs.Functions.{check_count, own_among}
 
 abbrev one : Tree
 one = number (pos 1000000000000)
@@ -65,3 +65,8 @@ beside : (own_among kept (value_by (at_yes (pos 2500000000))) (policy_by staying
     × (own_among kept (value_by (at_yes (pos 2500000000))) (policy_by staying) 1 (0 ∷ []) (0 ∷ []) ≡ Pair (pos 0) (pos 2250000000))
 unfolding shape-the_row-Tree-0 hidden-the_row-Tree-0 denote.Hole.Carrier.hidden
 beside = (refl, refl)
+
+-- the nodes of a check at 1.96875
+counted : check_count kept (value_by (at_yes (pos 1968750000))) (policy_by staying) ≡ 23
+unfolding shape-the_row-Tree-0 hidden-the_row-Tree-0 denote.Hole.Carrier.hidden
+counted = refl

@@ -1,6 +1,10 @@
 //! The verdict on a certificate.
 
+ghost use Rattle.std.specs.Prelude.{◌≡◌};
+ghost use Rattle.spd_check.specs.declared.verdict.CheckFault.TheVariants as C;
+
 use spd_model::{Side, State};
+use std::alloc::AllocError;
 
 /// The verdict on a certificate.
 #[derive(Debug, Drop)]
@@ -13,10 +17,35 @@ pub enum Verdict {
 }
 
 /// Why there is no verdict.
-#[derive(Clone, Copy, Debug, PartialEq, Eq, Drop)]
+#[derive(Debug, Drop)]
 pub enum CheckFault {
-    /// The functions of the check have more nodes than the forest may hold.
-    NodeLimit { limit: u32 },
+    /// The probabilities of a variable's next values don't sum to one: the first such action, variable and state, and the sum in units
+    /// of 10^-12.
+    Sum {
+        action: u32,
+        var: u32,
+        state: State,
+        sum: i128,
+    },
+    /// A reward passes its limit: the first such action and state, and the reward in units of 10^-9.
+    Range {
+        action: u32,
+        state: State,
+        value: i128,
+    },
+    /// The functions of building, or else those of the check, have more nodes than a forest may hold.
+    NodeLimit {
+        building: bool,
+        limit: u32,
+    },
     /// There is no memory.
     Memory,
+}
+
+impl From<AllocError> for CheckFault {
+    ghost from_gives = { λ _ fault. fault ≡ C.Memory };
+
+    fn from(_: AllocError) -> CheckFault {
+        CheckFault::Memory
+    }
 }

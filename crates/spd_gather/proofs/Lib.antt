@@ -1,5 +1,6 @@
 pub mod CallerLemmas
 pub mod RowLaws
+mod SplitLaws
 pub mod PlaceLaws
 pub mod ListSteps
 pub mod DownLaws

@@ -1,13 +1,12 @@
 -- How an operation on several diagrams goes down: what it makes of a list of trees, said of lists below it.
-use Rattle.std.specs.Prelude.{◌≡◌, ℕ, ◌<◌, List, true, map, All, Option, None, Some, cond, nat_lt, Contains}
+use Rattle.std.specs.Prelude.{◌≡◌, ℕ, ◌<◌, List, true, map, length, All, Option, None, Some, Contains}
 use Rattle.spd_cons_core.specs.declared.key.Entry.{Entry}
 use Rattle.spd_nodes.specs.declared.layout.Level.{Level}
-use Rattle.spd_nodes.specs.declared.forest.View.{View}
-use Rattle.spd_nodes.specs.declared.forest.View.TheVariants as V
 use Rattle.spd_nodes.specs.Levels.{levels_of, slots}
 use Rattle.spd_nodes.specs.Trees.{Tree, join, CanTest}
 use Rattle.spd_nodes.specs.Shown.{Shown, IsSound}
-use Rattle.spd_apply.specs.Halves.{IsLeaf}
+use Rattle.spd_apply.specs.Halves.{yes_at, no_at, IsLeaf}
+use Rattle.spd_gather.specs.declared.halves.Sides.{Sides}
 use Rattle.spd_gather.specs.declared.rule.ListPlan.{ListPlan}
 use Rattle.spd_gather.specs.declared.rule.ListPlan.TheVariants as P
 use Rattle.spd_gather.specs.Down.{Each, Making}
@@ -69,13 +68,30 @@ pub record IsListReady (making : Making) (may : List Tree → Type 0) (s : Shown
   pub met : AreMet may s ks
   pub table : HoldsRows making s rows
 
--- the lower of a level, if any, and of what a view tests
-abbrev pub lower_with : Option Level → View → Option Level
-lower_with low (V.Leaf a) = low
-lower_with None (V.Test l y n) = Some l
-lower_with (Some k) (V.Test l y n) = Some (cond (nat_lt l.0 k.0) l k)
-
 -- the lowest level that entries test first; none where all are leaves
 abbrev pub IsLowOf : Shown → Option Level → List Entry → Type 0
 IsLowOf s None ks = Each IsLeaf (trees_of s ks)
 IsLowOf s (Some l) ks = IsLowest l.0 (trees_of s ks)
+
+-- a level comes before the lowest one so far, if any
+abbrev pub IsBefore : Level → Option Level → Type 0
+IsBefore l None = Unit {0}
+IsBefore l (Some k) = l.0 < k.0
+
+-- a level is the lowest one so far
+abbrev pub IsSame : Level → Option Level → Type 0
+IsSame l None = ⊥
+IsSame l (Some k) = l.0 ≡ k.0
+
+-- entries are as many as some others, and where there is a level they are what a change there makes of these
+abbrev pub AreAt : Shown → (ℕ → Tree → Tree) → Option Level → List Entry → List Entry → Type 0
+AreAt s half None ks hs = length hs ≡ length ks
+AreAt s half (Some l) ks hs = trees_of s hs ≡ map (half l.0) (trees_of s ks)
+
+-- entries on both sides of their lowest level
+pub record IsSplit (s : Shown) (ks : List Entry) (v : Sides) : Type 0 where
+  pub low : IsLowOf s v.low ks
+  pub known_yes : AreKnown s v.yes.items
+  pub known_no : AreKnown s v.no.items
+  pub yes : AreAt s yes_at v.low ks v.yes.items
+  pub no : AreAt s no_at v.low ks v.no.items

@@ -8,10 +8,12 @@
 
 pub mod halves;
 pub mod make;
+pub mod pool;
 pub mod rule;
 pub mod table;
 
-pub use halves::{halves_of, lowest_level};
+pub use halves::{Sides, split};
 pub use make::make_list;
+pub use pool::Pool;
 pub use rule::{ListPlan, ListRule};
-pub use table::Table;
+pub use table::{ListHash, Table};

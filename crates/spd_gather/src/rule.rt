@@ -5,9 +5,10 @@ ghost use Rattle.spd_nodes.specs.Trees.{Tree};
 ghost use Rattle.spd_nodes.specs.Shown.{Shown, IsSound, KnowsAs, MakesTree};
 ghost use Rattle.spd_gather.specs.Lists.{IsListPlan, AreMet, trees_of};
 
+use crate::pool::Pool;
 use spd_apply::OpFault;
 use spd_nodes::{Forest, Level, Ref, Steps};
-use std::alloc::{AllocError, Global};
+use std::alloc::AllocError;
 use std::sync::ledger::Ledger;
 
 /// How an operation goes on from a list.
@@ -44,12 +45,12 @@ pub trait ListRule {
         ensures keeps { F.kept forest.new ≡ F.kept forest.old }
         ensures known { IfSome result (λ r. KnowsAs (F.shows forest.old) r (making self.now (trees_of (F.shows forest.old) list.now))) };
 
-    /// How it goes on from a list. It fails only for want of memory.
+    /// How it goes on from a list, in vectors of a pool. It fails only for want of memory.
     fn plan<F: Forest>(
         &self,
-        alloc: Global,
         forest: &mut F,
         list: &[Ref],
+        pool: &mut Pool,
     ) -> Result<ListPlan, AllocError>
         requires sound { IsSound (F.shows forest.old) }
         requires met { AreMet (may self.now (F.shows forest.old).sizes) (F.shows forest.old) list.now }

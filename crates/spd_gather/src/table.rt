@@ -34,14 +34,25 @@ impl Model for Table {
     ghost invariant = { λ t. length t.keys.items ≡ length t.answers.items * t.width };
 }
 
-/// The place of a list among so many places.
-fn place(list: &[Ref], places: usize) -> usize {
-    let mut hash: u64 = 0x9E37_79B9_7F4A_7C15;
-    for r in list {
-        hash = (hash ^ r.0 as u64).wrapping_mul(0xBF58_476D_1CE4_E5B9);
-        hash ^= hash >> 29;
+/// The hash of a list, from which its place follows: whoever looks an answer up and then puts one hashes once.
+#[derive(Clone, Copy)]
+pub struct ListHash(u64);
+
+impl ListHash {
+    /// The hash of a list.
+    pub fn of(list: &[Ref]) -> ListHash {
+        let mut hash: u64 = 0x9E37_79B9_7F4A_7C15;
+        for r in list {
+            hash = (hash ^ r.0 as u64).wrapping_mul(0xBF58_476D_1CE4_E5B9);
+            hash ^= hash >> 29;
+        }
+        ListHash(hash)
     }
-    ((hash >> 32).wrapping_mul(places as u64) >> 32) as usize
+
+    /// The place among so many places.
+    fn place(self, places: usize) -> usize {
+        ((self.0 >> 32).wrapping_mul(places as u64) >> 32) as usize
+    }
 }
 
 /// Whether two lists are the same.
@@ -115,11 +126,11 @@ impl Table {
         })
     }
 
-    /// The answer that is kept for a list, if any: an answer that is found is one that was put.
-    pub fn get(&self, list: &[Ref]) -> Option<Ref>
+    /// The answer that is kept for a list with this hash, if any: an answer that is found is one that was put.
+    pub fn get(&self, list: &[Ref], hash: ListHash) -> Option<Ref>
         ensures { IfSome result (λ r. Contains self.now (list.now, r)) }
     {
-        let at = place(list, self.answers.len());
+        let at = hash.place(self.answers.len());
         if at >= self.answers.len() {
             return None;
         }
@@ -131,19 +142,19 @@ impl Table {
         }
     }
 
-    /// Keeps an answer for a list of the table's width. It may take the place of another list's.
-    pub fn put(&mut self, alloc: Global, list: &[Ref], r: Ref)
+    /// Keeps an answer for a list of the table's width, with its hash. It may take the place of another list's.
+    pub fn put(&mut self, alloc: Global, list: &[Ref], hash: ListHash, r: Ref)
         ensures { (row : Row) → Contains self.new row → Contains self.old row ⊎ (row ≡ (list.now, r)) }
     {
         self.make_room(alloc);
-        self.write(list, r);
+        self.write(list, hash, r);
     }
 
     /// Keeps an answer for a list of the table's width in its place, if there is one.
-    fn write(&mut self, list: &[Ref], r: Ref)
+    fn write(&mut self, list: &[Ref], hash: ListHash, r: Ref)
         ensures { (row : Row) → Contains self.new row → Contains self.old row ⊎ (row ≡ (list.now, r)) }
     {
-        let at = place(list, self.answers.len());
+        let at = hash.place(self.answers.len());
         if list.len() != self.width || at >= self.answers.len() {
             return;
         }
@@ -179,7 +190,8 @@ impl Table {
     {
         for at in 0..other.answers.len() {
             if let Some(r) = other.answers[at] {
-                self.write(list_at(other.keys.as_slice(), other.width, at), r);
+                let list = list_at(other.keys.as_slice(), other.width, at);
+                self.write(list, ListHash::of(list), r);
             }
         }
     }

@@ -11,15 +11,15 @@ use Rattle.spd_model.specs.Process.{Process}
 use Rattle.spd_model.specs.Trees.{read_in, value_of}
 use Rattle.spd_model.specs.Lawful.{IsLawful, IsAction}
 use Rattle.spd_model.specs.Numbers.{numbers_below}
-use Rattle.spd_model.specs.States.{sizes, states, state_count, IsState}
+use Rattle.spd_model.specs.States.{sizes, states, IsState}
 use Rattle.spd_model.specs.Chances.{sizes_after}
 use Rattle.spd_model.proofs.CallerLemmas.Lists.{length-numbers_below, get_or-numbers_below}
 use Rattle.spd_model.proofs.CallerLemmas.StateOrder.{length-IsState, length-sizes}
 use Rattle.spd_plain.specs.declared.space.Axis.{Axis}
 use Rattle.spd_plain.specs.declared.reach.Reach.{Reach}
 use Rattle.spd_plain.specs.declared.reach.Reach.TheVariants.{Own, Later}
-use Rattle.spd_plain.specs.Space.{state_limit}
-use Rattle.spd_plain.specs.inner.Axes.{axis_of, axes_of, IsAxis}
+use Rattle.spd_plain.specs.declared.space.Space.{Space}
+use Rattle.spd_plain.specs.inner.Axes.{axis_of, IsAxis, IsSpace}
 use Rattle.spd_plain.specs.inner.Reach.{latest, reach_at, reaches_after}
 use Rattle.spd_plain.specs.inner.Chances.{chance_of, values_of, HoldFor}
 use Rattle.spd_plain.specs.inner.Outlooks.{keeps, kept_of}
@@ -33,10 +33,6 @@ entry_below f n k x all are near is =
 
 pub length-below : {X : Type 0} (f : ℕ → X) (n : ℕ) (all : List X) → all ≡ map f (numbers_below n) → length all ≡ n
 length-below f n all are = ap length are ∙ length-map (numbers_below n) f ∙ length-numbers_below n
-
--- an axis that is read
-pub axis_read : (m : Process) → IsLawful m → state_count (sizes m) ≤ state_limit → (k : ℕ) (axis : Axis) → k < length m.vars → axis ≡ axis_of m k → IsAxis m axis
-axis_read m law few k axis near is = subst (IsAxis m) (sym is) (record { near = near; is = refl; few = omega (arith, few_from m k near law, few) })
 
 module _ (m : Process) (law : IsLawful m) (a : Action) (offered : Contains m.actions a) (i : ℕ) (near : i < length m.vars) where
   action : IsAction m a
@@ -91,23 +87,27 @@ kept_at m a s i near x = by (keeps m)
     by true is = entry_below (values_of m a s) (length m.vars) i x all refl near (same_Some x (get_or all i x) (sym is ∙ slice_get-get_or all i x inside))
     by false is = absurd (cc)
 
--- the axis that stands at k, and the reach of its variable's table
-module _ (m : Process) (law : IsLawful m) (few : state_count (sizes m) ≤ state_limit) (axes : List Axis) (are : axes ≡ axes_of m) (k : ℕ) (test : k < length axes) (d : Axis) where
-  near_var : k < length m.vars
-  near_var = omega (arith, length-below (axis_of m) (length m.vars) axes are)
+-- the list of the axes, and the axis that stands at k
+module _ {m : Process} {space : Space} (is : IsSpace m space) {axes : List Axis} (are : axes ≡ space.axes) where
+  pub length-axes : length axes ≡ length m.vars
+  length-axes = length-below (axis_of m) (length m.vars) axes (are ∙ is.axes)
 
-  axis_is : get_or axes k d ≡ axis_of m k
-  axis_is = entry_below (axis_of m) (length m.vars) k (get_or axes k d) axes are near_var (get_or_default axes k d (get_or axes k d) test)
+  module _ (k : ℕ) (test : k < length axes) (d : Axis) where
+    axis_is : get_or axes k d ≡ axis_of m k
+    axis_is = entry_below (axis_of m) (length m.vars) k (get_or axes k d) axes (are ∙ is.axes) (omega (arith, length-axes)) (get_or_default axes k d (get_or axes k d) test)
 
-  pub var_is : (get_or axes k d).var ≡ k
-  var_is = ap (λ (x : Axis). x.var) axis_is
+    pub var_is : (get_or axes k d).var ≡ k
+    var_is = ap (λ (x : Axis). x.var) axis_is
 
-  pub is_axis : IsAxis m (get_or axes k d)
-  is_axis = axis_read m law few k (get_or axes k d) near_var axis_is
+    pub is_axis : IsAxis m (get_or axes k d)
+    is_axis =
+        let near : k < length m.vars = omega (arith, length-axes) in
+        subst (IsAxis m) (sym axis_is) (record { law = is.law; near = near; is = refl; few = omega (arith, few_from m k near is.law, is.few) })
 
-  -- the reach of that variable's table
-  pub reach_read : (a : Action) (reaches : List Reach) → reaches ≡ reaches_after m a → get_or reaches k Own ≡ reach_at m a (get_or axes k d).var
-  reach_read a reaches reach_are =
-      let inside : k < length reaches = omega (arith, near_var, length-below (reach_at m a) (length m.vars) reaches reach_are) in
-      entry_below (reach_at m a) (length m.vars) k (get_or reaches k Own) reaches reach_are near_var (get_or_default reaches k Own (get_or reaches k Own) inside)
-      ∙ ap (reach_at m a) (sym var_is)
+-- the list of reaches, and the reach of a variable's table
+module _ (m : Process) (a : Action) {reaches : List Reach} (are : reaches ≡ reaches_after m a) where
+  pub length-reaches : length reaches ≡ length m.vars
+  length-reaches = length-below (reach_at m a) (length m.vars) reaches are
+
+  pub reach_read : (k : ℕ) (d : Reach) → k < length m.vars → get_or reaches k d ≡ reach_at m a k
+  reach_read k d near = entry_below (reach_at m a) (length m.vars) k (get_or reaches k d) reaches are near (get_or_default reaches k d (get_or reaches k d) (omega (arith, length-reaches)))

@@ -8,8 +8,8 @@ pub mod TableValues
 pub mod Steps
 pub mod Known
 pub mod Rows
-pub mod Numbered
 pub mod OwnSums
+pub mod FirstFaults
 pub mod SweepLaws
 pub mod Runs
 pub mod Shapes

@@ -5,7 +5,6 @@ use Rattle.std.proofs.lemmas.List.{length-take}
 use Rattle.std.proofs.lemmas.List.Elements.{All-map}
 use Rattle.spd_model.specs.declared.process.Action.{Action}
 use Rattle.spd_model.specs.Process.{Process}
-use Rattle.spd_model.specs.Lawful.{IsLawful}
 use Rattle.spd_model.specs.States.{sizes, states, IsState}
 use Rattle.spd_model.specs.Chances.{Sum, one, sizes_after, probability, sum_of}
 use Rattle.spd_model.proofs.CallerLemmas.Finds.{find_none, none_passes, find_map_none}
@@ -20,15 +19,15 @@ use Rattle.spd_plain.specs.inner.Reach.{reach_at, places_of}
 use Rattle.spd_plain.proofs.Tables.{after_is, after_some}
 use Rattle.spd_plain.proofs.Known.{own_same}
 
-pub place_below : (m : Process) → IsLawful m → (axis : Axis) → IsAxis m axis → (reach : Reach) (k : ℕ) → k < places_of reach axis.after → k < axis.after
-place_below m law axis is Own k h = let some = after_some m law axis is in omega (arith, some)
-place_below m law axis is Later k h = h
+pub place_below : (m : Process) (axis : Axis) → IsAxis m axis → (reach : Reach) (k : ℕ) → k < places_of reach axis.after → k < axis.after
+place_below m axis is Own k h = let some = after_some m axis is in omega (arith, some)
+place_below m axis is Later k h = h
 
-module _ (m : Process) (law : IsLawful m) (a : Action) (offered : Contains m.actions a) (s : List ℕ) (state : IsState (sizes m) s) (axis : Axis) (is : IsAxis m axis) (number : ℕ) where
+module _ (m : Process) (a : Action) (offered : Contains m.actions a) (s : List ℕ) (state : IsState (sizes m) s) (axis : Axis) (is : IsAxis m axis) (number : ℕ) where
   same_sum : reach_at m a axis.var ≡ Own → (first rest : List ℕ) → sum_of m a s axis.var first ≡ sum_of m a s axis.var rest
   same_sum own first rest =
       sum_below-cong (slice_index (sizes m) axis.var) (λ v. probability m a s axis.var v first) (λ v. probability m a s axis.var v rest)
-      (λ v below. own_same m law a offered axis.var is.near own s state v first rest)
+      (λ v below. own_same m is.law a offered axis.var is.near own s state v first rest)
 
   -- where none of the first sums is wrong, none is
   pub own_none : reach_at m a axis.var ≡ Own → (k : ℕ) → 0 < k
@@ -38,7 +37,7 @@ module _ (m : Process) (law : IsLawful m) (a : Action) (offered : Contains m.act
       let xs = states (sizes_after m axis.var) in
       let f : List ℕ → Sum = λ rest. record { action = number; var = axis.var; state = s; sum = sum_of m a s axis.var rest } in
       let P : Sum → Type 0 = λ x. not (int_eq x.sum one) ≡ false in
-      let enough : 0 < length (states (sizes_after m axis.var)) = omega (arith, length-states (sizes_after m axis.var), after_some m law axis is, after_is m axis is) in
+      let enough : 0 < length (states (sizes_after m axis.var)) = omega (arith, length-states (sizes_after m axis.var), after_some m axis is, after_is m axis is) in
       let first : not (int_eq (sum_of m a s axis.var (get_or (take k (states (sizes_after m axis.var))) 0 [])) one) ≡ false =
       All-map_back P f (take k xs) (find_none (λ (x : Sum). not (int_eq x.sum one)) (map f (take k xs)) none) 0 [] (omega (arith, length-take k (states (sizes_after m axis.var)), enough)) in
       none_passes (λ (x : Sum). not (int_eq x.sum one)) (map f xs)

@@ -1,9 +1,8 @@
 -- The greatest over the actions, and what stands in the rows of a table.
-use Rattle.std.proofs.Common.{◌≡◌, ◌∙◌, ℕ, ◌+◌, ◌<◌, ◌≤◌, List, [], ◌∷◌, ◌++◌, length, map, take, get_or, ℤ, refl, ap, sym, subst, arith}
+use Rattle.std.proofs.Common.{◌≡◌, ◌∙◌, ℕ, ◌+◌, ◌<◌, ◌≤◌, List, [], ◌∷◌, ◌++◌, length, map, take, get_or, ℤ, refl, ap, sym, arith}
 use Rattle.std.specs.Int.{int_max}
-use Rattle.std.proofs.lemmas.List.{take_more, map_push, length-take, take_all, get_or-map}
+use Rattle.std.proofs.lemmas.List.{take_more, map_push, length-take, take_all}
 use Rattle.std.proofs.Math.ListN.{length-map}
-use Rattle.spd_model.specs.declared.process.Action.{Action}
 use Rattle.spd_model.specs.declared.Side.{Side}
 use Rattle.spd_model.specs.declared.Side.TheVariants.{Above, Below}
 use Rattle.spd_model.specs.Process.{Process}
@@ -11,10 +10,8 @@ use Rattle.spd_model.specs.Numbers.{greatest, first_place}
 use Rattle.spd_model.specs.States.{sizes, states, state_count}
 use Rattle.spd_model.specs.Chances.{reward_of}
 use Rattle.spd_model.proofs.CallerLemmas.StateOrder.{get_or-table_of, length-table_of}
-use Rattle.spd_model.proofs.CallerLemmas.Greatest.{greatest-push, IsFirstBest, first_best_start}
+use Rattle.spd_model.proofs.CallerLemmas.Greatest.{greatest-push}
 use Rattle.spd_plain.specs.declared.outlook.Outlook.{Outlook}
-use Rattle.spd_plain.specs.declared.reach.Reach.{Reach}
-use Rattle.spd_plain.specs.inner.Reach.{reaches_after, reaches_of}
 use Rattle.spd_plain.specs.inner.Outlooks.{outlook_of, outlooks_at, outlooks_of}
 use Rattle.spd_plain.specs.inner.Sweeps.{bound_on, action_on}
 use Rattle.spd_model.proofs.CallerLemmas.Lists.{map-map}
@@ -29,15 +26,6 @@ greatest_one_more f xs k x best here most some near is so_far here_is most_is =
   where
     length-take_near : {X : Type 0} (xs : List X) (k : ℕ) → k < length xs → length (take k xs) ≡ k
     length-take_near xs k near = length-take k xs ∙ omega arith
-
--- the greatest of the first entry, and the first best of it
-pub greatest_first : {X : Type 0} (f : X → ℤ) (xs : List X) (x : X) (best : ℤ) → 0 < length xs → x ≡ get_or xs 0 x → best ≡ f x → best ≡ greatest (map f (take 1 xs))
-greatest_first f [] x best some is here = absurd (omega arith)
-greatest_first f (y ∷ ys) x best some is here = here ∙ ap f is
-
-pub first_best_first : {X : Type 0} (f : X → ℤ) (xs : List X) (x : X) (best : ℤ) → 0 < length xs → x ≡ get_or xs 0 x → best ≡ f x → IsFirstBest (map f (take 1 xs)) best 0
-first_best_first f [] x best some is here = absurd (omega arith)
-first_best_first f (y ∷ ys) x best some is here = subst (λ (z : ℤ). IsFirstBest (f y ∷ []) z 0) (sym (here ∙ ap f is)) (first_best_start (f y))
 
 -- the first action with the greatest bound on a side
 pub first_on : (side : Side) (m : Process) (w : List ℕ → ℤ) (s : List ℕ) → first_place (greatest (map (λ a. bound_on side m w a s) m.actions)) (map (λ a. bound_on side m w a s) m.actions)
@@ -67,26 +55,6 @@ plain_more f xs k d entries more a near so_far is here =
 
 pub table_done : {B X : Type 0} (f : X → B) (xs : List X) (k : ℕ) (entries : List B) → length xs ≤ k → entries ≡ map f (take k xs) → entries ≡ map f xs
 table_done f xs k entries all so_far = so_far ∙ ap (map f) (take_all k xs all)
-
--- the outlooks of a state and the reaches of the tables, one for each action
-pub length-outlooks : (m : Process) (s : List ℕ) (outlooks : List Outlook) (actions : List Action) → outlooks ≡ outlooks_at m s → actions ≡ m.actions → length outlooks ≡ length actions
-length-outlooks m s outlooks actions are all = ap length are ∙ length-map m.actions (outlook_of m s) ∙ ap length (sym all)
-
-pub length-reaches : (m : Process) (reaches : List (List Reach)) (actions : List Action) → reaches ≡ reaches_of m → actions ≡ m.actions → length reaches ≡ length actions
-length-reaches m reaches actions are all = ap length are ∙ length-map m.actions (reaches_after m) ∙ ap length (sym all)
-
-of_action : {B : Type 0} (f : Action → B) (m : Process) (xs : List B) (actions : List Action) (k : ℕ) (x : B) (a : Action) → xs ≡ map f m.actions → actions ≡ m.actions → k < length actions
-    → x ≡ get_or xs k x → a ≡ get_or actions k a → x ≡ f a
-of_action f m xs actions k x a are all near is here =
-    is ∙ ap (λ l. get_or l k x) are ∙ get_or-map f m.actions k a x (subst (λ (l : List Action). k < length l) all near) ∙ ap f (sym (here ∙ ap (λ (l : List Action). get_or l k a) all))
-
-pub outlook_read : (m : Process) (s : List ℕ) (outlooks : List Outlook) (actions : List Action) (k : ℕ) (outlook : Outlook) (a : Action) → outlooks ≡ outlooks_at m s → actions ≡ m.actions → k < length actions
-    → outlook ≡ get_or outlooks k outlook → a ≡ get_or actions k a → outlook ≡ outlook_of m s a
-outlook_read m s = of_action (outlook_of m s) m
-
-pub reaches_read : (m : Process) (reaches : List (List Reach)) (actions : List Action) (k : ℕ) (row : List Reach) (a : Action) → reaches ≡ reaches_of m → actions ≡ m.actions → k < length actions
-    → row ≡ get_or reaches k row → a ≡ get_or actions k a → row ≡ reaches_after m a
-reaches_read m = of_action (reaches_after m) m
 
 -- the rewards of a row
 pub row_some : (m : Process) → 0 < length m.actions → (s : List ℕ) (row : List Outlook) → row ≡ outlooks_at m s → 0 < length row

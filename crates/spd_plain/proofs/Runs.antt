@@ -5,7 +5,6 @@ use Rattle.spd_scaled.specs.Scaled.{IsWithin}
 use Rattle.spd_model.specs.declared.Why.{Why}
 use Rattle.spd_model.specs.declared.Why.TheVariants.{Done, Limit}
 use Rattle.spd_model.specs.Process.{Process}
-use Rattle.spd_model.specs.Lawful.{IsLawful}
 use Rattle.spd_model.specs.Numbers.{greatest}
 use Rattle.spd_model.specs.States.{sizes, state_count, at}
 use Rattle.spd_model.specs.Chances.{IsValid, reward_of}
@@ -42,12 +41,12 @@ length-turn m span (suc k) =
     ∙ length-table_of (sizes m) _
 
 -- a turn can be swept, and its residual fits
-module _ (m : Process) (law : IsLawful m) (valid : IsValid m) (space : Space) (is : IsSpace m space) (span : ℤ) (k : ℕ) (values : List ℤ) (turn_is : values ≡ turn m span k) where
+module _ {m : Process} (valid : IsValid m) {space : Space} (is : IsSpace m space) (span : ℤ) (k : ℕ) {values : List ℤ} (turn_is : values ≡ turn m span k) where
   bounded : All (IsWithin (pos value_limit)) values
-  bounded = subst (All (IsWithin (pos value_limit))) (sym turn_is) (turn_limited m law valid span k)
+  bounded = subst (All (IsWithin (pos value_limit))) (sym turn_is) (turn_limited m is.law valid span k)
 
   pub can_sweep : CanSweep m space values
   can_sweep = record { valid = valid; space_is = is; count = ap length turn_is ∙ length-turn m span k; bounded = bounded }
 
   pub residual_small : IsWithin (pos (10 ^ 31)) (residual_of m (at (sizes m) values))
-  residual_small = residual_within m law valid (at (sizes m) values) (IsBounded-at (sizes m) values bounded)
+  residual_small = residual_within m is.law valid (at (sizes m) values) (IsBounded-at (sizes m) values bounded)

@@ -7,7 +7,6 @@ use Rattle.spd_scaled.specs.Scaled.{IsWithin}
 use Rattle.spd_model.proofs.CallerLemmas.StateOrder.{quotient_below}
 use Rattle.spd_model.specs.declared.process.Action.{Action}
 use Rattle.spd_model.specs.Process.{Process}
-use Rattle.spd_model.specs.Lawful.{IsLawful}
 use Rattle.spd_model.specs.Numbers.{sum_below}
 use Rattle.spd_model.specs.States.{sizes, states, state_count, at, IsState}
 use Rattle.spd_model.specs.Chances.{one, sizes_after, probability, IsValid}
@@ -17,8 +16,11 @@ use Rattle.spd_model.proofs.CallerLemmas.StateOrder.{IsState-get_or, at-get_or, 
 use Rattle.spd_model.proofs.CallerLemmas.Sums.{sum_below-cong}
 use Rattle.spd_plain.specs.declared.space.Axis.{Axis}
 use Rattle.spd_plain.specs.inner.Axes.{IsAxis}
-use Rattle.spd_plain.specs.inner.Chances.{chance_of, TellsChances, HoldFor}
-use Rattle.spd_plain.specs.inner.Expectations.{entry, weighted, AreWeights}
+use Rattle.spd_plain.specs.declared.reach.Reach.TheVariants.{Own}
+use Rattle.spd_plain.specs.inner.Chances.{chance_of, values_of, TellsChances, HoldFor}
+use Rattle.spd_plain.specs.inner.Reach.{reach_at}
+use Rattle.spd_plain.specs.inner.Expectations.{entry, weighted, AreWeights, IsReady}
+use Rattle.spd_plain.proofs.Known.{values_hold}
 use Rattle.spd_plain.proofs.Tables.{size_is, after_is, axis_more, after_some, counted}
 use Rattle.spd_plain.proofs.Weights.{entry_below}
 
@@ -35,27 +37,31 @@ module _ (m : Process) (a : Action) (s : List ℕ) (axis : Axis) (is : IsAxis m 
         tells.each (v * axis.after + k) (subst (λ (n : ℕ). v * axis.after + k < n) (λ i. size_is m axis is i * after_is m axis is i) place)
         ∙ ap (chance_of m a s axis.var) (axis_more m axis is v k below near)
 
-  -- kept probabilities, each at all places of the variables after it
-  pub kept_tells : IsLawful m → (kept chances : List ℤ) → HoldFor m a s axis.var kept → length chances ≡ length kept * axis.after
-      → ((v k : ℕ) → v < length kept → k < axis.after → get_or chances (v * axis.after + k) (pos 0) ≡ get_or kept v (pos 0)) → TellsChances m a s axis.var chances
-  kept_tells law kept chances holds len spread =
-      let size : length kept ≡ axis.size = holds.count ∙ sym (size_is m axis is) in
-      record {
-        count = len ∙ (λ i. holds.count i * after_is m axis is i);
-        each = λ k near.
-            let some = after_some m law axis is in
-            let v = k / axis.after in
-            let j = k % axis.after in
-            let inside : k < axis.size * axis.after = subst (λ (n : ℕ). k < n) (sym (λ i. size_is m axis is i * after_is m axis is i)) near in
-            let below : k / axis.after < axis.size = quotient_below axis.size axis.after k inside in
-            let place : k % axis.after < axis.after = mod-lt k some in
-            let parts : k ≡ k / axis.after * axis.after + k % axis.after = omega (arith, div-add-mod' k axis.after) in
-            ap (λ (n : ℕ). get_or chances n (pos 0)) parts
-            ∙ spread v j (omega arith) place
-            ∙ holds.each v (get_or (states (sizes_after m axis.var)) j []) (omega (arith, size_is m axis is)) (IsState-get_or (sizes_after m axis.var) j (omega (arith, after_is m axis is)))
-            ∙ ap (chance_of m a s axis.var) (sym (axis_more m axis is v j below place))
-            ∙ ap (λ (n : ℕ). chance_of m a s axis.var (get_or (states (drop axis.var (sizes m))) n [])) (sym parts);
-      }
+  -- probabilities that don't follow later variables, each at all places of these
+  module _ (offered : Contains m.actions a) (state : IsState (sizes m) s) (own : reach_at m a axis.var ≡ Own) (kept : List ℤ) (are : kept ≡ values_of m a s axis.var) where
+    holds : HoldFor m a s axis.var kept
+    holds = subst (HoldFor m a s axis.var) (sym are) (values_hold m is.law a offered axis.var is.near own s state)
+
+    pub own_count : length kept ≡ axis.size
+    own_count = holds.count ∙ sym (size_is m axis is)
+
+    pub own_tells : (chances : List ℤ) → length chances ≡ length kept * axis.after
+        → ((v k : ℕ) → v < length kept → k < axis.after → get_or chances (v * axis.after + k) (pos 0) ≡ get_or kept v (pos 0)) → TellsChances m a s axis.var chances
+    own_tells chances len spread = record {
+      count = len ∙ (λ i. holds.count i * after_is m axis is i);
+      each = λ k near.
+          let v = k / axis.after in
+          let j = k % axis.after in
+          let inside : k < axis.size * axis.after = subst (λ (n : ℕ). k < n) (sym (λ i. size_is m axis is i * after_is m axis is i)) near in
+          let below : k / axis.after < axis.size = quotient_below axis.size axis.after k inside in
+          let place : k % axis.after < axis.after = mod-lt k (after_some m axis is) in
+          let parts : k ≡ k / axis.after * axis.after + k % axis.after = omega (arith, div-add-mod' k axis.after) in
+          ap (λ (n : ℕ). get_or chances n (pos 0)) parts
+          ∙ spread v j (omega (arith, own_count)) place
+          ∙ holds.each v (get_or (states (sizes_after m axis.var)) j []) (omega (arith, size_is m axis is)) (IsState-get_or (sizes_after m axis.var) j (omega (arith, after_is m axis is)))
+          ∙ ap (chance_of m a s axis.var) (sym (axis_more m axis is v j below place))
+          ∙ ap (λ (n : ℕ). chance_of m a s axis.var (get_or (states (drop axis.var (sizes m))) n [])) (sym parts);
+    }
 
 -- the table of the expectations of w over the first i variables, by the states of the others
 pub record Expects (m : Process) (a : Action) (s : List ℕ) (w : List ℕ → ℤ) (round : Rounding) (i : ℕ) (values : List ℤ) : Type 0 where
@@ -122,17 +128,13 @@ module _ (m : Process) (a : Action) (s : List ℕ) where
         expects.each 0 (omega arith)
         ∙ (λ j. expected_by round (slice_index (sizes m)) (probability m a s) w (all j) (get_or (states (none_left j)) 0 []))
 
--- what summing a variable out takes
-pub record IsReady (axis : Axis) (chances values : List ℤ) : Type 0 where
-  pub some : 0 < axis.size
-  pub weights : AreWeights axis.size axis.after chances
-  pub count : length values ≡ axis.size * axis.after
-
-pub is_ready : (m : Process) → IsLawful m → IsValid m → (a : Action) → Contains m.actions a → (s : List ℕ) → IsState (sizes m) s → (axis : Axis) → IsAxis m axis
-    → (chances told values : List ℤ) → told ≡ chances → TellsChances m a s axis.var chances → (w : List ℕ → ℤ) (round : Rounding) → Expects m a s w round axis.var values
-    → IsReady axis told values
-is_ready m law valid a offered s state axis is chances told values same tells w round expects = record {
-  some = omega (arith, size_is m axis is, sizes_some m law axis.var 0 (omega (arith, length-sizes m, is.near)));
-  weights = subst (AreWeights axis.size axis.after) (sym same) (are_weights m a s valid offered state axis is chances tells);
+-- what summing a variable out of such a table takes
+pub is_ready : {m : Process} → IsValid m → {a : Action} → Contains m.actions a → {s : List ℕ} → IsState (sizes m) s → (axis : Axis) → IsAxis m axis → {chances : List ℤ}
+    → TellsChances m a s axis.var chances → {w : List ℕ → ℤ} {round : Rounding} {values : List ℤ} → Expects m a s w round axis.var values → IsReady axis.size axis.after chances values
+is_ready {m} valid {a} offered {s} state axis is {chances} tells expects = record {
+  some = omega (arith, size_is m axis is, sizes_some m is.law axis.var 0 (omega (arith, length-sizes m, is.near)));
+  few = is.few;
+  weights = are_weights m a s valid offered state axis is chances tells;
   count = expects.count ∙ sym (counted m axis is);
+  bounded = expects.bounded;
 }

@@ -10,7 +10,8 @@ use Rattle.spd_model.specs.States.{sizes, states, state_count, IsState}
 use Rattle.spd_model.specs.Chances.{sizes_after}
 use Rattle.spd_model.proofs.CallerLemmas.StateOrder.{IsState-get_or, length-states, rank-get_or, get_or-states, length-sizes, sizes_some, state_count_some}
 use Rattle.spd_plain.specs.declared.space.Axis.{Axis}
-use Rattle.spd_plain.specs.inner.Axes.{IsAxis}
+use Rattle.spd_plain.specs.declared.space.Space.{Space}
+use Rattle.spd_plain.specs.inner.Axes.{IsAxis, IsSpace}
 
 -- the state of the first variable's value v and the others' k-th state
 pub get_or-states_more : (size : ℕ) (sizes : List ℕ) (v k : ℕ) → v < size → k < state_count sizes
@@ -89,22 +90,26 @@ module _ (m : Process) (axis : Axis) (is : IsAxis m axis) where
   pub counted : axis.size * axis.after ≡ state_count (drop axis.var (sizes m))
   counted = ap (λ (x : Axis). x.size * x.after) is.is ∙ sym (state_count-from m axis.var is.near)
 
-module _ (m : Process) (law : IsLawful m) (axis : Axis) (is : IsAxis m axis) where
   pub after_some : 0 < axis.after
-  after_some = omega (arith, after_is m axis is, state_count_some (sizes_after m axis.var) (All-drop (λ n. 0 < n) (suc axis.var) (sizes m) (sizes_some m law)))
-
-  pub near_state : (place : ℕ) → place < axis.size * axis.after → place < state_count (sizes m)
-  near_state place near = omega (arith, counted m axis is, state_count-drop (sizes m) axis.var (sizes_some m law))
+  after_some = omega (arith, after_is, state_count_some (sizes_after m axis.var) (All-drop (λ n. 0 < n) (suc axis.var) (sizes m) (sizes_some m is.law)))
 
   pub own_state : (place : ℕ) → place < axis.size * axis.after → drop axis.var (get_or (states (sizes m)) place []) ≡ get_or (states (drop axis.var (sizes m))) place []
-  own_state place near = drop-states (sizes m) axis.var place (sizes_some m law) (omega (arith, counted m axis is))
+  own_state place near = drop-states (sizes m) axis.var place (sizes_some m is.law) (omega (arith, counted))
 
--- the state that is read in the list of all states
-pub state_is : (m : Process) (k : ℕ) (s : List ℕ) (all : List (List ℕ)) → all ≡ states (sizes m) → k < state_count (sizes m) → s ≡ get_or all k s → s ≡ get_or (states (sizes m)) k []
-state_is m k s all are near is = is ∙ get_or_default all k s [] (omega (arith, ap length are, length-states (sizes m))) ∙ ap (λ (l : List (List ℕ)). get_or l k []) are
+-- the list of all states, and the state that is read in it
+module _ {m : Process} {space : Space} (is : IsSpace m space) {all : List (List ℕ)} (are : all ≡ space.states) where
+  pub length-all : length all ≡ state_count (sizes m)
+  length-all = ap length (are ∙ is.states) ∙ length-states (sizes m)
 
-pub state_read : (m : Process) (k : ℕ) (s : List ℕ) (all : List (List ℕ)) → all ≡ states (sizes m) → k < state_count (sizes m) → s ≡ get_or all k s → IsState (sizes m) s
-state_read m k s all are near is = subst (IsState (sizes m)) (sym (state_is m k s all are near is)) (IsState-get_or (sizes m) k near)
+  -- the first states for all values of a variable and of those after it are among them
+  pub near_all : (axis : Axis) → IsAxis m axis → (place : ℕ) → place < axis.size * axis.after → place < length all
+  near_all axis stands place near = omega (arith, length-all, counted m axis stands, state_count-drop (sizes m) axis.var (sizes_some m is.law))
+
+  pub state_is : (k : ℕ) {s : List ℕ} → k < length all → s ≡ get_or all k s → s ≡ get_or (states (sizes m)) k []
+  state_is k {s} near read = read ∙ get_or_default all k s [] near ∙ ap (λ (l : List (List ℕ)). get_or l k []) (are ∙ is.states)
+
+  pub state_read : (k : ℕ) {s : List ℕ} → k < length all → s ≡ get_or all k s → IsState (sizes m) s
+  state_read k near read = subst (IsState (sizes m)) (sym (state_is k near read)) (IsState-get_or (sizes m) k (omega (arith, length-all)))
 
 -- a list that tells f of the numbers below v, with one entry more
 pub map_below_more : {X : Type 0} (f : ℕ → X) (v : ℕ) (xs : List X) (x : X) → xs ≡ map f (numbers_below v) → x ≡ f v → xs ++ x ∷ [] ≡ map f (numbers_below (v + 1))

@@ -1,5 +1,5 @@
 -- Sums of values weighted by the chances of one variable's values: they fit 128 bits.
-use Rattle.std.proofs.Common.{◌≡◌, ℕ, suc, ◌+◌, ◌*◌, ◌<◌, ◌≤◌, ◌-◌, ◌++◌, List, length, take, replicate, All, ℤ, pos, ◌+ℤ◌, ◌*ℤ◌, ◌≤ℤ◌, ap, sym, ◌∙◌, subst, arith, below_more, length-append, FitsSigned, add-one, slice_index_or}
+use Rattle.std.proofs.Common.{◌≡◌, ℕ, suc, ◌+◌, ◌*◌, ◌<◌, ◌≤◌, ◌-◌, ◌++◌, List, length, take, replicate, ℤ, pos, ◌+ℤ◌, ◌*ℤ◌, ◌≤ℤ◌, ap, sym, ◌∙◌, subst, arith, below_more, length-append, FitsSigned, add-one, slice_index_or}
 use Rattle.std.proofs.lemmas.Int.{ints}
 use Rattle.std.proofs.lemmas.List.{take_all, length-replicate, get_or-replicate, get_or_append_left, get_or-append-add}
 use Rattle.std.proofs.Math.Nat.{mul-le-mul_right}
@@ -11,21 +11,20 @@ use Rattle.spd_model.specs.Numbers.{sum_below}
 use Rattle.spd_model.specs.Chances.{one}
 use Rattle.spd_model.specs.Turns.{value_limit}
 use Rattle.spd_model.proofs.CallerLemmas.Sums.{sum_below-cong, sum_below_grows, sum_below_within}
-use Rattle.spd_plain.specs.inner.Expectations.{entry, weighted, AreWeights}
+use Rattle.spd_plain.specs.inner.Expectations.{entry, weighted, IsReady}
 
 -- the place of an entry is below the number of entries
 pub entry_below : (v size k after : ℕ) → v < size → k < after → v * after + k < size * after
 entry_below v size k after h near = let more = mul-le-mul_right after h in omega (arith, more)
 
-module _ (size after : ℕ) (chances values : List ℤ) (weights : AreWeights size after chances) (count : length values ≡ size * after)
-    (bounded : All (IsWithin (pos value_limit)) values) (k : ℕ) (near : k < after) where
+module _ {size after : ℕ} {chances values : List ℤ} (ready : IsReady size after chances values) (k : ℕ) (near : k < after) where
   limited : (v : ℕ) → v < size → IsWithin (pos value_limit) (entry after values v k)
-  limited v h = bounded (v * after + k) (pos 0) (omega (arith, entry_below v size k after h near))
+  limited v h = ready.bounded (v * after + k) (pos 0) (omega (arith, ready.count, entry_below v size k after h near))
 
   part_of_one : (n : ℕ) → n ≤ size → sum_below n (λ v. entry after chances v k) ≤ℤ one
   part_of_one n p =
-      subst (λ x. sum_below n (λ v. entry after chances v k) ≤ℤ x) (weights.whole k near)
-      (sum_below_grows (λ v. entry after chances v k) n size (λ v h. weights.nonnegative v k h near) p)
+      subst (λ x. sum_below n (λ v. entry after chances v k) ≤ℤ x) (ready.weights.whole k near)
+      (sum_below_grows (λ v. entry after chances v k) n size (λ v h. ready.weights.nonnegative v k h near) p)
 
   scaled : (x : ℤ) → x ≤ℤ one → (x *ℤ pos value_limit) ≤ℤ (one *ℤ pos value_limit)
   scaled x h = *ℤ_mono x one (pos value_limit) (omega (arith, ints)) h
@@ -34,19 +33,19 @@ module _ (size after : ℕ) (chances values : List ℤ) (weights : AreWeights si
   part_within n p =
       IsWithin_mono _ (one *ℤ pos value_limit) _ (scaled _ (part_of_one n p))
       (sum_below_within (λ v. entry after chances v k) (λ v. entry after values v k) (pos value_limit) n
-      (λ v h. weights.nonnegative v k (omega arith) near) (λ v h. limited v (omega arith)))
+      (λ v h. ready.weights.nonnegative v k (omega arith) near) (λ v h. limited v (omega arith)))
 
   last_part : (s c : ℤ) → pos 0 ≤ℤ s → (s +ℤ c) ≤ℤ one → c ≤ℤ one
   last_part s c p h = omega (arith, ints)
 
   one_chance : (v : ℕ) → v < size → entry after chances v k ≤ℤ one
   one_chance v h = last_part (sum_below v (λ j. entry after chances j k)) _
-      (sum_below_grows (λ j. entry after chances j k) 0 v (λ j l. weights.nonnegative j k (omega arith) near) (omega arith)) (part_of_one (suc v) (omega arith))
+      (sum_below_grows (λ j. entry after chances j k) 0 v (λ j l. ready.weights.nonnegative j k (omega arith) near) (omega arith)) (part_of_one (suc v) (omega arith))
 
   pub term_fits : (v : ℕ) → v < size → FitsSigned w128 (entry after chances v k *ℤ entry after values v k)
   term_fits v h =
       fits_within w128 (one *ℤ pos value_limit) _ (omega (arith, ints))
-      (IsWithin_mono _ (one *ℤ pos value_limit) _ (scaled _ (one_chance v h)) (IsWithin-*ℤ (entry after chances v k) (pos value_limit) _ (weights.nonnegative v k h near) (limited v h)))
+      (IsWithin_mono _ (one *ℤ pos value_limit) _ (scaled _ (one_chance v h)) (IsWithin-*ℤ (entry after chances v k) (pos value_limit) _ (ready.weights.nonnegative v k h near) (limited v h)))
 
   pub next_sum : (v : ℕ) (sum : ℤ) → sum ≡ sum_below v (λ v. entry after chances v k *ℤ entry after values v k)
       → sum +ℤ entry after chances v k *ℤ entry after values v k ≡ sum_below (v + 1) (λ v. entry after chances v k *ℤ entry after values v k)

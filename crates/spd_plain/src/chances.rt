@@ -7,9 +7,9 @@ ghost use Rattle.spd_model.specs.Chances.{sizes_after, sum_of};
 ghost use Rattle.spd_plain.specs.Space.{state_limit};
 ghost use Rattle.spd_plain.specs.inner.Axes.{IsSpace, IsAxis};
 ghost use Rattle.spd_plain.specs.inner.Chances.{chance_of, values_of, TellsChances};
-ghost use Rattle.spd_plain.specs.inner.Reach.{reach_at};
-ghost use Rattle.spd_plain.specs.inner.Outlooks.{kept_of};
+ghost use Rattle.spd_plain.specs.inner.Outlooks.{outlook_of};
 
+use crate::outlook::Outlook;
 use crate::reach::Reach;
 use crate::space::{Axis, Space};
 use spd_model::{Action, Model, State};
@@ -34,8 +34,6 @@ fn chance_at(
     ensures value { result ≡ chance_of model.now action.now s.now axis.now.var (slice_index_or (states (drop axis.now.var (sizes model.now))) place []) }
     ensures within { IsWithin (pos (10 ^ 30)) result }
 {
-    // Reading a field tells the proof what every model keeps.
-    let _vars = &model.vars;
     let next = &space.states.as_slice()[place];
     model.value(&action.tables.as_slice()[axis.var], s, next)
 }
@@ -64,6 +62,28 @@ pub(crate) fn chance_sum(
     sum
 }
 
+/// Reads the probabilities of a variable's values after `action` at `s`, where the variables after it have their first values.
+fn read_own(
+    model: &Model,
+    action: &Action,
+    s: &State,
+    axis: &Axis,
+    space: &Space,
+    own: &mut Vec<i128>,
+) -> Result<(), AllocError>
+    requires action { Contains model.now.actions action.now }
+    requires state { IsState (sizes model.now) s.now }
+    requires axis { IsAxis model.now axis.now }
+    requires space { IsSpace model.now space.now }
+    ensures { OnOk result (own.new.items ≡ values_of model.now action.now s.now axis.now.var) }
+{
+    own.clear();
+    for value in 0..axis.size {
+        own.push(chance_at(model, action, s, axis, space, value * axis.after))?;
+    }
+    Ok(())
+}
+
 /// The probabilities of a variable's values after `action` at `s`, where the variables after it have their first values.
 pub(crate) fn kept_chances(
     alloc: Global,
@@ -79,12 +99,8 @@ pub(crate) fn kept_chances(
     requires space { IsSpace model.now space.now }
     ensures { IfOk result (λ kept. kept ≡ values_of model.now action.now s.now axis.now.var) }
 {
-    // Reading a field tells the proof what every model keeps.
-    let _vars = &model.vars;
     let mut kept = Vec::with_capacity(alloc, axis.size)?;
-    for value in 0..axis.size {
-        kept.push(chance_at(model, action, s, axis, space, value * axis.after))?;
-    }
+    read_own(model, action, s, axis, space, &mut kept)?;
     Ok(Items::from_vec(kept))
 }
 
@@ -98,34 +114,6 @@ fn spread(kept: &[i128], after: usize, chances: &mut Vec<i128>) -> Result<(), Al
     chances.clear();
     for (value, chance) in kept.iter().enumerate() {
         chances.resize((value + 1) * after, *chance)?;
-    }
-    Ok(())
-}
-
-/// Reads the probabilities of a variable's values where the variables after it have their first values, and writes each as often as
-/// those variables have states.
-fn read_steady_chances(
-    model: &Model,
-    action: &Action,
-    s: &State,
-    axis: &Axis,
-    space: &Space,
-    chances: &mut Vec<i128>,
-) -> Result<(), AllocError>
-    requires action { Contains model.now.actions action.now }
-    requires state { IsState (sizes model.now) s.now }
-    requires axis { IsAxis model.now axis.now }
-    requires space { IsSpace model.now space.now }
-    ensures len { OnOk result (length chances.new.items ≡ axis.now.size * axis.now.after) }
-    ensures each { OnOk result ((v k : ℕ) → v < axis.now.size → k < axis.now.after
-        → slice_index_or chances.new.items (v * axis.now.after + k) (pos 0) ≡ slice_index_or (values_of model.now action.now s.now axis.now.var) v (pos 0)) }
-{
-    // Reading a field tells the proof what every model keeps.
-    let _vars = &model.vars;
-    chances.clear();
-    for value in 0..axis.size {
-        let chance = chance_at(model, action, s, axis, space, value * axis.after);
-        chances.resize((value + 1) * axis.after, chance)?;
     }
     Ok(())
 }
@@ -153,32 +141,32 @@ fn read_chances(
 }
 
 /// Tells the probabilities of a variable's values after `action` at `s`, for each state of the variables after it. Those that don't
-/// follow these variables are taken from `kept`, where all of them are kept, or else are read once each.
+/// follow these variables are taken from what `outlook` keeps, or where it keeps none are read once each into `own`.
 pub(crate) fn tell_chances(
     model: &Model,
     action: &Action,
+    outlook: &Outlook,
     s: &State,
     axis: &Axis,
     space: &Space,
-    reach: Reach,
-    kept: &Items<Items<i128>>,
+    own: &mut Vec<i128>,
     chances: &mut Vec<i128>,
 ) -> Result<(), AllocError>
     requires action { Contains model.now.actions action.now }
+    requires outlook { outlook.now ≡ outlook_of model.now s.now action.now }
     requires state { IsState (sizes model.now) s.now }
     requires axis { IsAxis model.now axis.now }
     requires space { IsSpace model.now space.now }
-    requires reach { reach ≡ reach_at model.now action.now axis.now.var }
-    requires kept { kept.now ≡ kept_of model.now s.now action.now }
     ensures { OnOk result (TellsChances model.now action.now s.now axis.now.var chances.new.items) }
 {
-    // Reading a field tells the proof what every model keeps.
-    let _vars = &model.vars;
-    match reach {
+    match outlook.reaches.as_slice()[axis.var] {
         Reach::Later => read_chances(model, action, s, axis, space, chances),
-        Reach::Own => match kept.get(axis.var) {
-            Some(own) => spread(own.as_slice(), axis.after, chances),
-            None => read_steady_chances(model, action, s, axis, space, chances),
+        Reach::Own => match outlook.kept.get(axis.var) {
+            Some(kept) => spread(kept.as_slice(), axis.after, chances),
+            None => {
+                read_own(model, action, s, axis, space, own)?;
+                spread(own, axis.after, chances)
+            }
         },
     }
 }

@@ -9,7 +9,7 @@ ghost use Rattle.spd_model.specs.Turns.{value_limit};
 ghost use Rattle.spd_plain.specs.Space.{state_limit};
 ghost use Rattle.spd_plain.specs.inner.Axes.{IsSpace};
 ghost use Rattle.spd_plain.specs.inner.Outlooks.{outlook_of};
-ghost use Rattle.spd_plain.specs.inner.Expectations.{rounding_of, weighted, AreWeights};
+ghost use Rattle.spd_plain.specs.inner.Expectations.{rounding_of, weighted, IsReady};
 
 use crate::chances::tell_chances;
 use crate::outlook::Outlook;
@@ -26,18 +26,21 @@ pub struct Work {
     pub low: Vec<i128>,
     /// The table that is rounded up, in units of 10^-9.
     pub high: Vec<i128>,
-    /// The probabilities of one variable's values, in units of 10^-12.
+    /// The probabilities of one variable's values where the variables after it have their first values, in units of 10^-12.
+    pub own: Vec<i128>,
+    /// The probabilities of one variable's values for each state of the variables after it, in units of 10^-12.
     pub chances: Vec<i128>,
 }
 
 impl Work {
     /// Empty buffers for tables of `count` entries.
     pub(crate) fn new(alloc: Global, count: usize) -> Result<Work, AllocError>
-        ensures { IfOk result (λ work. (work.low.items ≡ []) × (work.high.items ≡ []) × (work.chances.items ≡ [])) }
+        ensures { IfOk result (λ work. (work.low.items ≡ []) × (work.high.items ≡ []) × (work.own.items ≡ []) × (work.chances.items ≡ [])) }
     {
         Ok(Work {
             low: Vec::with_capacity(alloc, count)?,
             high: Vec::with_capacity(alloc, count)?,
+            own: Vec::with_capacity(alloc, count)?,
             chances: Vec::with_capacity(alloc, count)?,
         })
     }
@@ -46,10 +49,7 @@ impl Work {
 /// The sum, over the values of a variable, of the probability of each times what `values` has there, where the variables after it
 /// have the values of their state at `place`.
 fn weighted_sum(chances: &[i128], values: &[i128], size: usize, after: usize, place: usize) -> i128
-    requires weights { AreWeights size after chances.now }
-    requires count { length values.now ≡ size * after }
-    requires few { size * after ≤ state_limit }
-    requires values { All (IsWithin (pos value_limit)) values.now }
+    requires ready { IsReady size after chances.now values.now }
     requires place { place < after }
     ensures sum { result ≡ weighted size after chances.now values.now place }
     ensures within { IsWithin (pos (value_limit * 1000000000000)) result }
@@ -76,11 +76,7 @@ fn rounded(side: Side, sum: i128) -> i128
 
 /// Sums a variable out of a table over its states and those of the variables after it: an entry for each of the latter is left.
 fn sum_out(chances: &[i128], size: usize, after: usize, side: Side, values: &mut Vec<i128>)
-    requires some { 0 < size }
-    requires weights { AreWeights size after chances.now }
-    requires count { length values.old.items ≡ size * after }
-    requires few { size * after ≤ state_limit }
-    requires values { All (IsWithin (pos value_limit)) values.old.items }
+    requires { IsReady size after chances.now values.old.items }
     ensures count { length values.new.items ≡ after }
     ensures each { (k : ℕ) → k < after → slice_index_or values.new.items k (pos 0) ≡ rounding_of side (weighted size after chances.now values.old.items k) one }
     ensures bounded { All (IsWithin (pos value_limit)) values.new.items }
@@ -115,10 +111,7 @@ pub(crate) fn expect(
     ensures high { OnOk result (slice_index_or work.new.high.items 0 (pos 0) ≡ expectation ceil_of model.now (at (sizes model.now) values.now) action.now s.now) }
     ensures bounded { OnOk result (All (IsWithin (pos value_limit)) work.new.low.items × All (IsWithin (pos value_limit)) work.new.high.items) }
 {
-    // Reading a field tells the proof what every model keeps.
-    let _vars = &model.vars;
     let axes = space.axes.as_slice();
-    let reaches = outlook.reaches.as_slice();
     work.low.clear();
     work.low.extend_from_slice(values)?;
     work.high.clear();
@@ -128,11 +121,11 @@ pub(crate) fn expect(
         tell_chances(
             model,
             action,
+            outlook,
             s,
             axis,
             space,
-            reaches[var],
-            &outlook.kept,
+            &mut work.own,
             &mut work.chances,
         )?;
         sum_out(

@@ -56,8 +56,6 @@ fn all_chances(
     requires space { IsSpace model.now space.now }
     ensures { IfOk result (λ chances. chances ≡ map (values_of model.now action.now s.now) (numbers_below (length model.now.vars))) }
 {
-    // Reading a field tells the proof what every model keeps.
-    let _vars = &model.vars;
     let axes = space.axes.as_slice();
     let mut chances = Vec::with_capacity(alloc, axes.len())?;
     for var in 0..axes.len() {

@@ -3,7 +3,7 @@
 //! APRICODD (St-Aubin, Hoey and Boutilier, NIPS 2000) makes value functions smaller by joining close values.
 //! How groups are formed here is this project's own rule.
 
-ghost use Rattle.std.specs.Prelude.{◌≡◌, All, IfOk, map, pos, ◌≤ℤ◌, ◌^◌};
+ghost use Rattle.std.specs.Prelude.{◌≡◌, All, Contains, IfOk, map, pos, ◌≤ℤ◌, ◌^◌};
 ghost use Rattle.std.specs.List.Sorted.{IsStrictlySortedBy};
 ghost use Rattle.spd_model.specs.Ranges.{in_order, group_of, groups_of, middle_of, value_in, merged};
 ghost use Rattle.spd_plain.specs.inner.Bounds.{range_of, bounds_cmp, AreSmallBounds};
@@ -49,6 +49,7 @@ pub(crate) fn merge_ranges(
 // The distinct ranges, in order.
 fn distinct_ranges(alloc: Global, ranges: &[Bounds]) -> Result<Vec<Bounds>, AllocError>
     ensures items { IfOk result (λ distinct. map range_of distinct.items ≡ in_order (map range_of ranges.now)) }
+    ensures found { IfOk result (λ distinct. All (Contains distinct.items) ranges.now) }
     ensures ordered { IfOk result (λ distinct. IsStrictlySortedBy bounds_cmp distinct.items) }
     ensures small { All AreSmallBounds ranges.now → IfOk result (λ distinct. All AreSmallBounds distinct.items) }
 {

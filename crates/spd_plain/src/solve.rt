@@ -132,10 +132,9 @@ fn run_turns(
     ensures sweep { IfOk result (λ stop. IsSweep model.now stop.value.items stop.sweep) }
     ensures limited { IfOk result (λ stop. All AreLimited stop.sweep.ranges.items) }
 {
-    // Reading a field tells the proof what every model keeps.
-    let _vars = &model.vars;
     let mut value = start(alloc, model, rows)?;
-    for turn in 0..turns {
+    let mut turn = 0;
+    loop {
         let sweep = sweep_states(alloc, model, rows, space, &value, work)?;
         if is_done(model, sweep.residual) {
             return Ok(Stop {
@@ -145,20 +144,17 @@ fn run_turns(
                 sweep,
             });
         }
+        if turn == turns {
+            return Ok(Stop {
+                turn,
+                why: Why::Limit,
+                value,
+                sweep,
+            });
+        }
         value = merge_ranges(alloc, &sweep.ranges, span)?;
+        turn += 1;
     }
-    let sweep = sweep_states(alloc, model, rows, space, &value, work)?;
-    let why = if is_done(model, sweep.residual) {
-        Why::Done
-    } else {
-        Why::Limit
-    };
-    Ok(Stop {
-        turn: turns,
-        why,
-        value,
-        sweep,
-    })
 }
 
 impl From<AllocError> for PlainFault {
@@ -230,8 +226,6 @@ fn solve_valid(
     requires span_high { span ≤ℤ pos (10 ^ 30) }
     ensures { IfOk result (λ p. p ≡ plain_of model.now turns span) }
 {
-    // Reading a field tells the proof what every model keeps.
-    let _vars = &model.vars;
     let rows = tabulate(alloc, model, reaches, space)?;
     let mut work = Work::new(alloc, rows.len())?;
     let stop = run_turns(alloc, model, &rows, space, turns, span, &mut work)?;
@@ -273,8 +267,6 @@ pub fn plain_solve(
     ensures placed { IfErr result (IsPlaced model.now) }
     ensures invalid { IfErr result (IsInvalid model.now) }
 {
-    // Reading a field tells the proof what every model keeps.
-    let _vars = &model.vars;
     let checked = check_model(alloc, model)?;
     Ok(solve_valid(alloc, model, &checked.reaches, &checked.space, turns, span)?)
 }

@@ -92,6 +92,8 @@ impl Space {
         requires few { count ≤ state_limit }
         ensures { IfOk result (IsSpace model.now) }
     {
+        // Reading a field tells the proof what every model keeps.
+        let _vars = &model.vars;
         Ok(Space {
             states: Items::from_vec(all_states(alloc, model, count)?),
             axes: Items::from_vec(all_axes(alloc, model, count)?),

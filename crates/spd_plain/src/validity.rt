@@ -66,8 +66,6 @@ fn wrong_sum_at(
     requires space { IsSpace model.now space.now }
     ensures { option_map sum_record result ≡ wrong_sum_at_of model.now (number, action.now) axis.now.var s.now }
 {
-    // Reading a field tells the proof what every model keeps.
-    let _vars = &model.vars;
     for place in 0..sum_count(axis, reach) {
         let sum = chance_sum(model, action, s, axis, space, place);
         if sum != ONE {
@@ -121,8 +119,6 @@ fn wrong_sum_after(
     requires space { IsSpace model.now space.now }
     ensures { option_map sum_record result ≡ wrong_sum_after_of model.now (number, action.now) }
 {
-    // Reading a field tells the proof what every model keeps.
-    let _vars = &model.vars;
     let axes = space.axes.as_slice();
     for var in 0..axes.len() {
         let wrong = wrong_sum_of_var(model, number, action, &axes[var], reaches[var], space);

@@ -12,7 +12,7 @@ ghost use Rattle.spd_policy.specs.Best.{greatest_of, IsNumeric};
 ghost use Rattle.spd_policy.specs.Choosing.{greatest_leaf, AreOne, MayCompare, HoldsGreatest};
 
 use spd_apply::OpFault;
-use spd_gather::{ListPlan, ListRule, Table, halves_of, lowest_level, make_list};
+use spd_gather::{ListPlan, ListRule, Pool, Table, make_list, split};
 use spd_nodes::{Forest, Leaf, Ref, Steps, View};
 use std::alloc::{AllocError, Global};
 use std::sync::ledger::Ledger;
@@ -89,16 +89,22 @@ impl ListRule for Highest {
 
     fn plan<F: Forest>(
         &self,
-        alloc: Global,
         forest: &mut F,
         list: &[Ref],
+        pool: &mut Pool,
     ) -> Result<ListPlan, AllocError> {
-        match lowest_level(forest, list) {
-            None => Ok(ListPlan::Bottom),
-            Some(level) => {
-                let (yes, no) = halves_of(alloc, forest, list, level)?;
-                Ok(ListPlan::Test { level, yes, no })
+        let sides = split(forest, list, pool)?;
+        match sides.low {
+            None => {
+                pool.give(sides.yes);
+                pool.give(sides.no);
+                Ok(ListPlan::Bottom)
             }
+            Some(level) => Ok(ListPlan::Test {
+                level,
+                yes: sides.yes,
+                no: sides.no,
+            }),
         }
     }
 

@@ -9,7 +9,7 @@ ghost use Rattle.spd_policy.specs.Best.{greatest_of, policy_by, IsNumeric};
 ghost use Rattle.spd_policy.specs.Choosing.{place_leaf, MayCompare, IsDecided, IsLike, HoldsPlaces};
 
 use spd_apply::OpFault;
-use spd_gather::{ListPlan, ListRule, Table, halves_of, lowest_level, make_list};
+use spd_gather::{ListPlan, ListRule, Pool, Table, make_list, split};
 use spd_nodes::{Forest, Leaf, Ref, Steps};
 use std::alloc::{AllocError, Global};
 use std::sync::ledger::Ledger;
@@ -73,20 +73,28 @@ impl ListRule for Placing {
 
     fn plan<F: Forest>(
         &self,
-        alloc: Global,
         forest: &mut F,
         list: &[Ref],
+        pool: &mut Pool,
     ) -> Result<ListPlan, AllocError> {
         if list.len() > 1 && list[1] == list[0] {
             return Ok(ListPlan::Bottom);
         }
-        match lowest_level(forest, list) {
-            None => Ok(ListPlan::Bottom),
+        let mut sides = split(forest, list, pool)?;
+        match sides.low {
+            None => {
+                pool.give(sides.yes);
+                pool.give(sides.no);
+                Ok(ListPlan::Bottom)
+            }
             Some(level) => {
-                let (mut yes, mut no) = halves_of(alloc, forest, list, level)?;
-                cut(&mut yes);
-                cut(&mut no);
-                Ok(ListPlan::Test { level, yes, no })
+                cut(&mut sides.yes);
+                cut(&mut sides.no);
+                Ok(ListPlan::Test {
+                    level,
+                    yes: sides.yes,
+                    no: sides.no,
+                })
             }
         }
     }

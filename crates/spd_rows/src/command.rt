@@ -1,8 +1,8 @@
 //! A command over memory.
 use spd_edge::{MemIn, MemOut, MemPlace};
 use spd_model::Word;
-use spd_solver::{Status, number, solve_run, write_message};
-use spd_tasks::Open;
+use spd_solver::{Status, Watch, number, solve_run, write_message};
+use spd_tasks::{Gate, Open};
 use sqlite_items::Items;
 use std::alloc::AllocError;
 use std::thread::Threads;
@@ -60,9 +60,10 @@ fn message<R: AllocGlobal>(rt: &R, status: &Status) -> Result<Vec<u8>, AllocErro
     }
 }
 
-/// What these words come to.
-pub fn run<R: AllocGlobal + Threads + Sync>(
+/// What these words come to, with a gate.
+pub fn run_with<R: AllocGlobal + Threads + Sync, G: Gate + Watch>(
     rt: &R,
+    gate: &G,
     texts: &[&str],
     outside: Outside<'_>,
 ) -> Result<Answer, AllocError> {
@@ -74,12 +75,21 @@ pub fn run<R: AllocGlobal + Threads + Sync>(
     let mut place = MemPlace::new(rt.alloc());
     place.put_in(b"m", MemIn::new(file, most, failing_reads))?;
     let mut out = MemOut::new(rt.alloc(), outside.room, most, failing_writes)?;
-    let status = solve_run(rt, &Open, rt.alloc(), &words, &mut place, &mut out);
+    let status = solve_run(rt, gate, rt.alloc(), &words, &mut place, &mut out);
     Ok(Answer {
         number: number(&status),
         message: message(rt, &status)?,
         output: out.taken().to_vec(rt.alloc())?,
     })
+}
+
+/// What these words come to.
+pub fn run<R: AllocGlobal + Threads + Sync>(
+    rt: &R,
+    texts: &[&str],
+    outside: Outside<'_>,
+) -> Result<Answer, AllocError> {
+    run_with(rt, &Open, texts, outside)
 }
 
 /// What `solve m` comes to for this file.

@@ -12,6 +12,8 @@ mod files;
 #[cfg(test)]
 mod limits;
 #[cfg(test)]
+mod meeting;
+#[cfg(test)]
 mod outside;
 #[cfg(test)]
 mod refused;
@@ -19,6 +21,8 @@ mod refused;
 mod rings;
 #[cfg(test)]
 mod solved;
+#[cfg(test)]
+mod tables;
 #[cfg(test)]
 mod texts;
 #[cfg(test)]

@@ -13,12 +13,12 @@ use Rattle.spd_build.specs.declared.built.BuildFault.TheVariants as Build
 use Rattle.spd_build.specs.Built.{BuildCause, Builds}
 use Rattle.spd_build.specs.Functions.{building_functions}
 use Rattle.spd_turn.specs.Turn.{count_nodes}
+use Rattle.spd_turn.proofs.CallerLemmas.{store-more-nodes}
 use Rattle.spd_plain.specs.declared.PlainFault.{PlainFault}
 use Rattle.spd_plain.specs.declared.PlainFault.TheVariants as Plain
 use Rattle.spd_plain.specs.Plain.{FaultCause}
 use Rattle.spd_solver.specs.declared.command.Way.TheVariants.{Diagrams, Tables}
 use Rattle.spd_solver.specs.inner.Stages.{IsPlacedFault, IsUnsolved, told_fault, told_build_fault}
-use Rattle.spd_solver.proofs.NodeCounts.{more-nodes}
 
 -- ---- the state of a fault is a state
 
@@ -52,7 +52,7 @@ module _ (m : Process) (options : Options) (old new : Held) (layout : old.sizes 
       let x : Reward = record { action = action; state = state; value = value } in
       (x, tt, cause.0, cause.1, record { action_is = refl; state_is = refl; value_is = refl }, wide_reward-invalid m x cause.1)
   by-fault Build.Full cause =
-      let more : new.limit < count_nodes old.sizes (building_functions m) = more-nodes old new (building_functions m) none builds.made cause in
+      let more : new.limit < count_nodes old.sizes (building_functions m) = store-more-nodes old new (building_functions m) none builds.made cause in
       (refl, refl, subst (λ n. n < count_nodes (sizes m) (building_functions m)) limit (subst (λ z. new.limit < count_nodes z (building_functions m)) layout more))
   by-fault Build.Memory cause = tt
 

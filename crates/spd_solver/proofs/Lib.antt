@@ -1,6 +1,5 @@
 pub mod SolvingLaws
 pub mod StopLaws
-pub mod NodeCounts
 pub mod BuildLaws
 mod StateTexts
 pub mod TableLaws

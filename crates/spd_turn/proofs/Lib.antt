@@ -10,5 +10,6 @@ mod Rows
 mod RunLaws
 pub mod SplitLaws
 mod ThawLaws
+mod StopLaws
 mod TurnLaws
 pub mod WaveLaws

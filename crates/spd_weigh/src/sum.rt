@@ -66,7 +66,7 @@ pub fn sum_out_with<F: Forest, L: Ledger>(
     };
     match pair_up(alloc, weights, f) {
         Ok(mut list) => {
-            clear(forest, &mut list);
+            clear(forest, &mut list, None);
             make_list(alloc, forest, &rule, list.as_slice(), table, steps)
         }
         Err(_) => Err(OpFault::Memory),

@@ -3,7 +3,7 @@
 ghost use Rattle.std.specs.Prelude.{◌≡◌, ◌⊎◌, ℕ, ◌<◌, ◌≤◌, ◌+◌, ◌*◌, ◌/◌, ◌^◌, List, map, drop, take, length, IfOk, IfSome, All, Contains, None, true, IsTrue, pos, ◌≤ℤ◌, ◌*ℤ◌};
 ghost use Rattle.spd_model.specs.Chances.{one};
 ghost use Rattle.spd_nodes.specs.Levels.{levels_of, slots};
-ghost use Rattle.spd_nodes.specs.Shown.{Shown, IsSound, MakesTree};
+ghost use Rattle.spd_nodes.specs.Shown.{Shown, IsSound, KnowsAs, MakesTree};
 ghost use Rattle.spd_nodes.specs.Trees.{Tree, Ends};
 ghost use Rattle.spd_apply.specs.Halves.{IsNotBefore, IsLeaf};
 ghost use Rattle.spd_restrict.specs.Restricted.{cofactored};
@@ -14,10 +14,10 @@ ghost use Rattle.spd_weigh.specs.Summed.{summed, taken, weighed, MaySum, IsAlone
 
 use crate::way::Way;
 use spd_apply::OpFault;
-use spd_gather::{ListPlan, ListRule, halves_of, lowest_level};
+use spd_gather::{ListPlan, ListRule, Pool, split};
 use spd_nodes::{Forest, Leaf, Ref, Steps, View};
 use spd_scaled::{ceil_div, floor_div};
-use std::alloc::{AllocError, Global};
+use std::alloc::AllocError;
 use std::sync::ledger::Ledger;
 
 /// Weights and values in turn, weighed and summed over a slot: `first` and `end` are the number of its first test and the one
@@ -57,76 +57,102 @@ fn is_past<F: Forest>(forest: &mut F, r: Ref, end: u16) -> bool
     }
 }
 
-/// Puts a weight in the place of its value where it is 0.
-fn clear_value<F: Forest>(forest: &mut F, list: &mut Vec<Ref>, v: usize)
+/// Whether a Ref is the leaf 0, whose Ref may be known already: it has one.
+fn is_that_zero<F: Forest>(forest: &mut F, r: Ref, zero: Option<Ref>) -> bool
+    requires sound { IsSound (F.shows forest.old) }
+    requires known { (F.shows forest.old).knows r ≡ true }
+    requires zero { IfSome zero (λ z. KnowsAs (F.shows forest.old) z zero_tree) }
+    ensures same { F.shows forest.new ≡ F.shows forest.old }
+    ensures keeps { F.kept forest.new ≡ F.kept forest.old }
+    ensures zero { IsTrue result → (F.shows forest.old).tree r ≡ zero_tree }
+    ensures other { (F.shows forest.old).tree r ≡ zero_tree → IsTrue result }
+{
+    match zero {
+        Some(zero) => r == zero,
+        None => is_zero(forest, r),
+    }
+}
+
+/// Puts a weight in the place of its value where it is 0. It takes and answers the Ref of 0, if it is known.
+fn clear_value<F: Forest>(
+    forest: &mut F,
+    list: &mut Vec<Ref>,
+    v: usize,
+    zero: Option<Ref>,
+) -> Option<Ref>
+    requires sound { IsSound (F.shows forest.old) }
     requires known { AreKnown (F.shows forest.old) list.old.items }
     requires v { 2 * v + 1 < length list.old.items }
+    requires zero { IfSome zero (λ z. KnowsAs (F.shows forest.old) z zero_tree) }
     ensures same { F.shows forest.new ≡ F.shows forest.old }
     ensures keeps { F.kept forest.new ≡ F.kept forest.old }
     ensures length { length list.new.items ≡ length list.old.items }
     ensures known { AreKnown (F.shows forest.old) list.new.items }
+    ensures zero { IfSome result (λ z. KnowsAs (F.shows forest.old) z zero_tree) }
     ensures like { (ts : List Tree) → IsLike ts (trees_of (F.shows forest.old) list.old.items) → IsLike ts (trees_of (F.shows forest.old) list.new.items) }
     ensures cleared { AreCleared (trees_of (F.shows forest.old) (take (2 * v) list.old.items)) → AreCleared (trees_of (F.shows forest.old) (take (2 * v + 2) list.new.items)) }
 {
     let weight = list[2 * v];
-    if is_zero(forest, weight) {
+    if is_that_zero(forest, weight, zero) {
         list[2 * v + 1] = weight;
+        return Some(weight);
     }
+    zero
 }
 
-/// Puts each weight of 0 in the place of its value too. Any value may stand there, so lists with the same sum become one.
-pub fn clear<F: Forest>(forest: &mut F, list: &mut Vec<Ref>)
+/// Puts each weight of 0 in the place of its value too. Any value may stand there, so lists with the same sum become one. It takes
+/// and answers the Ref of 0, if it is known: once it is, no weight is viewed.
+pub fn clear<F: Forest>(forest: &mut F, list: &mut Vec<Ref>, zero: Option<Ref>) -> Option<Ref>
+    requires sound { IsSound (F.shows forest.old) }
     requires known { AreKnown (F.shows forest.old) list.old.items }
+    requires zero { IfSome zero (λ z. KnowsAs (F.shows forest.old) z zero_tree) }
     ensures same { F.shows forest.new ≡ F.shows forest.old }
     ensures keeps { F.kept forest.new ≡ F.kept forest.old }
     ensures known { AreKnown (F.shows forest.old) list.new.items }
+    ensures zero { IfSome result (λ z. KnowsAs (F.shows forest.old) z zero_tree) }
     ensures like { IsLike (trees_of (F.shows forest.old) list.old.items) (trees_of (F.shows forest.old) list.new.items) }
     ensures cleared { AreCleared (trees_of (F.shows forest.old) list.new.items) }
 {
+    let mut zero = zero;
     for v in 0..list.len() / 2 {
-        clear_value(forest, list, v);
+        zero = clear_value(forest, list, v, zero);
     }
+    zero
 }
 
-/// The first value whose weight isn't 0.
-fn first_weighed<F: Forest>(forest: &mut F, list: &[Ref]) -> Option<Ref>
-    requires known { AreKnown (F.shows forest.old) list.now }
-    ensures same { F.shows forest.new ≡ F.shows forest.old }
-    ensures keeps { F.kept forest.new ≡ F.kept forest.old }
-    ensures known { IfSome result (λ r. (F.shows forest.old).knows r ≡ true) }
+/// The one value that stands behind all weights, but those that stand in their values' places. No Ref is viewed.
+fn lone_value(list: &[Ref]) -> Option<Ref>
+    ensures known { (s : Shown) → AreKnown s list.now → IfSome result (λ r. s.knows r ≡ true) }
 {
+    let mut lone: Option<Ref> = None;
     for v in 0..list.len() / 2 {
-        let weight = list[2 * v];
-        if !is_zero(forest, weight) {
-            return Some(list[2 * v + 1]);
+        let value = list[2 * v + 1];
+        if value != list[2 * v] && lone != Some(value) {
+            if lone.is_some() {
+                return None;
+            }
+            lone = Some(value);
         }
     }
-    None
-}
-
-/// Whether a weight is 0 or stands before this value.
-fn is_zero_or<F: Forest>(forest: &mut F, weight: Ref, found: Ref, value: Ref) -> bool
-    requires known { (F.shows forest.old).knows weight ≡ true }
-    ensures same { F.shows forest.new ≡ F.shows forest.old }
-    ensures keeps { F.kept forest.new ≡ F.kept forest.old }
-    ensures fits { IsTrue result → ((F.shows forest.old).tree weight ≡ zero_tree) ⊎ ((F.shows forest.old).tree found ≡ (F.shows forest.old).tree value) }
-{
-    if found == value {
-        return true;
-    }
-    is_zero(forest, weight)
+    lone
 }
 
 /// Whether each weight is 0 or stands before this value.
 fn is_alone<F: Forest>(forest: &mut F, value: Ref, list: &[Ref]) -> bool
+    requires sound { IsSound (F.shows forest.old) }
     requires known { AreKnown (F.shows forest.old) list.now }
     ensures same { F.shows forest.new ≡ F.shows forest.old }
     ensures keeps { F.kept forest.new ≡ F.kept forest.old }
     ensures alone { IsTrue result → IsAlone ((F.shows forest.old).tree value) (trees_of (F.shows forest.old) list.now) }
 {
+    let mut zero: Option<Ref> = None;
     for v in 0..list.len() / 2 {
-        if !is_zero_or(forest, list[2 * v], list[2 * v + 1], value) {
-            return false;
+        if list[2 * v + 1] != value {
+            let weight = list[2 * v];
+            if !is_that_zero(forest, weight, zero) {
+                return false;
+            }
+            zero = Some(weight);
         }
     }
     true
@@ -159,11 +185,11 @@ fn at_value<F: Forest>(forest: &mut F, r: Ref, first: u16, end: u16, value: u16)
 
 /// Each Ref at its value of the slot: two in turn have one value.
 fn at_slot<F: Forest>(
-    alloc: Global,
     forest: &mut F,
     list: &[Ref],
     first: u16,
     end: u16,
+    pool: &mut Pool,
 ) -> Result<Vec<Ref>, AllocError>
     requires sound { IsSound (F.shows forest.old) }
     requires known { AreKnown (F.shows forest.old) list.now }
@@ -175,7 +201,7 @@ fn at_slot<F: Forest>(
     ensures known { IfOk result (λ v. AreKnown (F.shows forest.old) v.items) }
     ensures trees { IfOk result (λ v. trees_of (F.shows forest.old) v.items ≡ taken first end 0 (trees_of (F.shows forest.old) list.now)) }
 {
-    let mut at = Vec::with_capacity(alloc, list.len())?;
+    let mut at = pool.take();
     for i in 0..list.len() {
         let r = at_value(forest, list[i], first, end, (i / 2) as u16);
         at.push(r)?;
@@ -241,7 +267,7 @@ impl ListRule for Weighing {
     ghost ends = { λ r sizes ts. Each IsLeaf ts };
 
     fn known<F: Forest>(&self, forest: &mut F, list: &[Ref]) -> Option<Ref> {
-        let value = first_weighed(forest, list)?;
+        let value = lone_value(list)?;
         if is_past(forest, value, self.end) && is_alone(forest, value, list) {
             Some(value)
         } else {
@@ -251,22 +277,32 @@ impl ListRule for Weighing {
 
     fn plan<F: Forest>(
         &self,
-        alloc: Global,
         forest: &mut F,
         list: &[Ref],
+        pool: &mut Pool,
     ) -> Result<ListPlan, AllocError> {
-        match lowest_level(forest, list) {
-            None => Ok(ListPlan::Bottom),
+        let mut sides = split(forest, list, pool)?;
+        match sides.low {
+            None => {
+                pool.give(sides.yes);
+                pool.give(sides.no);
+                Ok(ListPlan::Bottom)
+            }
             Some(level) => {
                 if self.first <= level.0 && level.0 < self.end {
-                    let mut below = at_slot(alloc, forest, list, self.first, self.end)?;
-                    clear(forest, &mut below);
+                    pool.give(sides.yes);
+                    pool.give(sides.no);
+                    let mut below = at_slot(forest, list, self.first, self.end, pool)?;
+                    clear(forest, &mut below, None);
                     Ok(ListPlan::Below(below))
                 } else {
-                    let (mut yes, mut no) = halves_of(alloc, forest, list, level)?;
-                    clear(forest, &mut yes);
-                    clear(forest, &mut no);
-                    Ok(ListPlan::Test { level, yes, no })
+                    let zero = clear(forest, &mut sides.yes, None);
+                    clear(forest, &mut sides.no, zero);
+                    Ok(ListPlan::Test {
+                        level,
+                        yes: sides.yes,
+                        no: sides.no,
+                    })
                 }
             }
         }

@@ -1,40 +1,55 @@
 //! The program `spudd`: the words of the command line, the system's files and streams, and the exit status.
 #![tactic(auto)]
 
+mod progress;
+mod terminal;
+
+use progress::{Cleared, Progress};
 use spd_edge::{RealPlace, StdErr, StdOut, WriterOut};
+use spd_help::{Remembering, Screen, show};
 use spd_model::Word;
 use spd_solver::{Status, number, solve_run, write_message};
-use spd_tasks::Open;
 use sqlite_items::Items;
 use std::alloc::AllocError;
 use std::env::{Env, FillError};
+use std::io::IsTerminal;
 use std::process::ExitCode;
 use std::thread::Threads;
+use terminal::{Told, tell};
 
-/// What `--help` prints.
+/// What `--help` prints: a screen of 80 columns and 40 lines.
 const HELP: &str = "\
 spudd: near-optimal values and policies of factored Markov decision processes
 
-    spudd solve FILE     solves the model in FILE on decision diagrams and prints the result;
-                         `-` is standard input
-    spudd plain FILE     the same over tables, of up to 4096 states; of the options it takes
-                         --turns and --span
-    spudd --help         prints this
-    spudd --version      prints the version
+    spudd solve FILE    solves the model in FILE on decision diagrams, and
+                        prints the result; `-` is standard input
+    spudd plain FILE    the same over tables of up to 4096 states
+    spudd help          prints this page, as -h and --help do
+    spudd version       prints the version, as -V and --version do
 
 Options, as --turns 20 or --turns=20. Behind the word -- no word is an option.
+`plain` takes --turns and --span alone.
+
     --turns N      the last turn that a run may reach: 0 to 1000000, else 10000
-    --span X       the width of a range of values that become one: a decimal from 0 to 10^21, else 0
+    --span X       values whose range is at most this wide become one:
+                   a decimal from 0 to 10^21, else 0
     --workers N    how many threads compute a turn: 1 to 64, else 1
-    --nodes N      how many nodes building or a turn may have: 16 to 8388608, else 262144
-    --memo N       how many answers a memo table keeps: 1 to 8388608, else 65536
+    --nodes N      how many nodes building or a turn may have:
+                   16 to 8388608, else 262144
+    --memo N       how many answers a table keeps: 1 to 8388608, else 65536
+
 A result depends on --turns and --span alone.
 
-Exit status: 0 done, 2 wrong words, 3 a file can't be opened or read, 4 a file is too long,
-5 a file is refused, 6 probabilities don't sum to one, 7 a reward is too large,
-8 turn limit reached, 9 node limit passed, 12 the result can't be written, 13 too many states,
-14 out of memory.
-docs/FORMAT.md explains the model file and the result.
+Exit status:
+    0  done                               8  turn limit reached
+    2  wrong words                        9  node limit passed
+    3  FILE can't be opened or read      12  the result can't be written
+    4  FILE is too long                  13  too many states
+    5  FILE is refused                   14  out of memory
+    6  probabilities don't sum to one    70  the program isn't built
+    7  a reward is too large
+
+docs/FORMAT.md explains the model file and the result; examples/ has models.
 ";
 
 /// What `--version` prints.
@@ -67,20 +82,70 @@ fn words<R: Env + AllocGlobal>(rt: &R) -> Result<Vec<Word>, AllocError> {
     Ok(words)
 }
 
+/// Whether a word is one of these names.
+fn is_one_of(word: &[u8], names: [&[u8]; 3]) -> bool {
+    names.iter().any(|name| *name == word)
+}
+
 /// The text that a word asks for where it stands alone.
 fn page(words: &[Word]) -> Option<&'static str> {
-    match words {
-        [word] if word.as_slice() == b"--help".as_slice() => Some(HELP),
-        [word] if word.as_slice() == b"--version".as_slice() => Some(VERSION),
-        _ => None,
+    let [word] = words else {
+        return None;
+    };
+    if is_one_of(word.as_slice(), [b"-h", b"--help", b"help"]) {
+        Some(HELP)
+    } else if is_one_of(word.as_slice(), [b"-V", b"--version", b"version"]) {
+        Some(VERSION)
+    } else {
+        None
+    }
+}
+
+/// Writes the message of a status to standard error, and behind it what a person is told, where that is a terminal.
+fn answer(rt: HostRuntime, terminal: bool, status: &Status, told: Told<'_>) {
+    let mut errors: StdErr = WriterOut::new(Vec::new(rt.alloc()), rt.stderr());
+    // Where the message can't be written, the status stays the same.
+    if write_message(status, &mut errors).is_err() || !terminal {
+        return;
+    }
+    let mut screen = Screen::new(rt.alloc());
+    if tell(&rt, rt.alloc(), &mut screen, status, told).is_ok() {
+        let _ = show(terminal, &screen, &mut errors);
     }
 }
 
 /// Runs the command of the words on the system's files, with threads that this handle starts, and says how it ended.
 fn run<R: Threads + Sync>(threads: &R, rt: HostRuntime, words: &[Word]) -> Status {
-    let mut place = RealPlace::new(rt);
-    let mut output: StdOut = WriterOut::new(Vec::new(rt.alloc()), rt.stdout());
-    solve_run(threads, &Open, rt.alloc(), words, &mut place, &mut output)
+    let terminal = rt.stderr().is_terminal();
+    let progress = Progress::new(rt, terminal);
+    let mut place = Remembering::new(rt.alloc(), RealPlace::new(rt), terminal);
+    let stdout: StdOut = WriterOut::new(Vec::new(rt.alloc()), rt.stdout());
+    let mut output = Cleared {
+        sink: stdout,
+        progress: &progress,
+    };
+    let status = solve_run(
+        threads,
+        &progress,
+        rt.alloc(),
+        words,
+        &mut place,
+        &mut output,
+    );
+    progress.clear();
+    let bytes = place.bytes();
+    answer(rt, terminal, &status, Told { words, bytes });
+    status
+}
+
+/// Says how something ended that isn't a command's run.
+fn ended(rt: HostRuntime, status: Status) -> Status {
+    let told = Told {
+        words: &[],
+        bytes: &[],
+    };
+    answer(rt, false, &status, told);
+    status
 }
 
 fn main(rt: HostRuntime) -> ExitCode {
@@ -88,14 +153,11 @@ fn main(rt: HostRuntime) -> ExitCode {
         Ok(words) => match page(&words) {
             Some(text) => match print!(rt; "{text}") {
                 Ok(()) => Status::Done,
-                Err(_) => Status::WriteFault,
+                Err(_) => ended(rt, Status::WriteFault),
             },
             None => run(&rt, rt, &words),
         },
-        Err(AllocError) => Status::Memory,
+        Err(AllocError) => ended(rt, Status::Memory),
     };
-    let mut errors: StdErr = WriterOut::new(Vec::new(rt.alloc()), rt.stderr());
-    // Where the message can't be written, the status stays the same.
-    let _ = write_message(&status, &mut errors);
     ExitCode::from(number(&status))
 }

@@ -14,6 +14,8 @@ use Rattle.spd_nodes.specs.declared.leaf.Leaf.{Leaf}
 use Rattle.spd_nodes.specs.declared.leaf.Leaf.TheVariants.{Num, Pair, Act}
 use Rattle.spd_nodes.specs.Made.{HasMade, MakesAll}
 use Rattle.spd_nodes.specs.Shown.{Shown, IsWhole, StandsFor, meaning}
+use Rattle.spd_build.specs.declared.built.BuildFault.{BuildFault}
+use Rattle.spd_build.specs.declared.built.BuildFault.TheVariants as B
 use Rattle.spd_build.specs.Functions.{numbers}
 use Rattle.spd_backup.specs.declared.backing.Bounds.{Bounds}
 use Rattle.spd_bellman.specs.Courses.{IsPolicy}
@@ -21,11 +23,20 @@ use Rattle.spd_policy.specs.Best.{AreBoundsOf}
 use Rattle.spd_residual.specs.Residual.{first_upper}
 use Rattle.spd_turn.specs.Jobs.{CanBackUp}
 use Rattle.spd_turn.specs.Turn.{present_value}
+use Rattle.spd_check.specs.declared.verdict.CheckFault.{CheckFault}
+use Rattle.spd_check.specs.declared.verdict.CheckFault.TheVariants as C
 use Rattle.spd_check.specs.declared.given.Given.{Given}
 use Rattle.spd_check.specs.declared.gaps.GapDiagrams.{GapDiagrams}
 use Rattle.spd_check.specs.declared.first.Failure.{Failure}
 use Rattle.spd_check.specs.Certificates.{gap_own, policy_by}
 use Rattle.spd_check.specs.Functions.{chosen, given_functions, highest_functions, highest_among, own_functions, own_among, gap_functions}
+
+-- a fault of building, where a forest may hold so many nodes
+abbrev pub told_build_fault : ℕ → BuildFault → CheckFault
+told_build_fault nodes (B.Sum action var state sum) = C.Sum action var state sum
+told_build_fault nodes (B.Range action state value) = C.Range action state value
+told_build_fault nodes B.Full = C.NodeLimit true nodes
+told_build_fault nodes B.Memory = C.Memory
 
 -- a lawful, valid process, a value within limits, and a policy that names an action at each state
 pub record CanCheck (m : Process) (w : List ℕ → ℤ) (policy : List ℕ → ℕ) : Type 0 where

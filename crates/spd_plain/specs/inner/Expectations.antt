@@ -1,11 +1,13 @@
 -- Tables of expectations, from which one variable after another is summed out.
-use Rattle.std.specs.Prelude.{ℕ, ◌+◌, ◌*◌, ◌≡◌, ◌<◌, List, length, ℤ, pos, ◌*ℤ◌, ◌≤ℤ◌, slice_index_or}
-use Rattle.spd_scaled.specs.Scaled.{floor_div, ceil_div}
+use Rattle.std.specs.Prelude.{ℕ, ◌+◌, ◌*◌, ◌≡◌, ◌<◌, ◌≤◌, All, List, length, ℤ, pos, ◌*ℤ◌, ◌≤ℤ◌, slice_index_or}
+use Rattle.spd_scaled.specs.Scaled.{floor_div, ceil_div, IsWithin}
 use Rattle.spd_model.specs.declared.Side.{Side}
 use Rattle.spd_model.specs.declared.Side.TheVariants.{Above, Below}
 use Rattle.spd_model.specs.Numbers.{sum_below}
 use Rattle.spd_model.specs.Chances.{one}
 use Rattle.spd_model.specs.Backup.{Rounding}
+use Rattle.spd_model.specs.Turns.{value_limit}
+use Rattle.spd_plain.specs.Space.{state_limit}
 
 -- how a bound on a side is rounded
 abbrev pub rounding_of : Side → Rounding
@@ -25,3 +27,11 @@ pub record AreWeights (size after : ℕ) (chances : List ℤ) : Type 0 where
   pub count : length chances ≡ size * after
   pub nonnegative : (v k : ℕ) → v < size → k < after → pos 0 ≤ℤ entry after chances v k
   pub whole : (k : ℕ) → k < after → sum_below size (λ v. entry after chances v k) ≡ one
+
+-- what summing a variable out takes: the chances of its values, and a bounded entry for each value and each state of the variables after it
+pub record IsReady (size after : ℕ) (chances values : List ℤ) : Type 0 where
+  pub some : 0 < size
+  pub few : size * after ≤ state_limit
+  pub weights : AreWeights size after chances
+  pub count : length values ≡ size * after
+  pub bounded : All (IsWithin (pos value_limit)) values

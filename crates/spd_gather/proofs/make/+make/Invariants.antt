@@ -5,5 +5,5 @@ use Rattle.spd_gather.proofs.make.+make.Given as goal
 abbrev pub decreases-make_anew : goal.decreases-make_anew
 decreases-make_anew g l = 2 * rank_of (g.F.Forest.shows l.forest.now) l.list.now
 
-abbrev pub decreases-make_list : goal.decreases-make_list
-decreases-make_list g l = 2 * rank_of (g.F.Forest.shows l.forest.now) l.list.now + 1
+abbrev pub decreases-make_in : goal.decreases-make_in
+decreases-make_in g l = 2 * rank_of (g.F.Forest.shows l.forest.now) l.list.now + 1

@@ -1,4 +1,4 @@
-use Rattle.std.proofs.Common.{rules, ◌∙◌, List, ℤ, ℕ, ap, map, FitsSigned, ◌<◌, length, arith}
+use Rattle.std.proofs.Common.{rules, ◌∙◌, List, ℤ, ℕ, ap, map, FitsSigned}
 use Rattle.std.proofs.lemmas.Int.{to_z-of_z}
 use Rattle.std.proofs.lemmas.List.{take_all}
 use mir.Syntax.{w128}
@@ -9,7 +9,7 @@ use Rattle.spd_model.specs.Numbers.{greatest, first_place}
 use Rattle.spd_model.specs.States.{sizes, at}
 use Rattle.spd_model.proofs.CallerLemmas.Greatest.{first_best_more, first_best_new, first_place_is}
 use Rattle.spd_plain.specs.inner.Sweeps.{bound_on}
-use Rattle.spd_plain.proofs.Rows.{first_on, length-outlooks, outlook_read, first_best_first}
+use Rattle.spd_plain.proofs.Rows.{first_on}
 use Rattle.spd_plain.proofs.backup.best_action.Goals as goal
 use Rattle.spd_plain.proofs.backup.best_action.Goals.{then-best-bound, else-best-bound}
 
@@ -33,26 +33,3 @@ returns c =
     let first : List Action → ℕ = λ l. first_place (greatest (map f l)) (map f l) in
     let all = take_all c.loop-number.number c.as_slice-actions.result.now c.loop-number-test.false ∙ c.as_slice-actions.ensures ∙ ap (λ (m : Process). m.actions) c.model.view_is in
     first_place_is _ _ c.loop-number.first c.loop-number.invariant ∙ ap first all ∙ first_on c.args.side m w c.args.s.now
-
-pub bounds-outlooks-0 : goal.bounds-outlooks-0
-bounds-outlooks-0 c =
-    let all = c.as_slice-actions.ensures ∙ ap (λ (m : Process). m.actions) c.model.view_is in
-    let some : 0 < length c.args.outlooks.now = omega (arith, c.model.invariant.some_actions, ap length c.as_slice-actions.ensures, length-outlooks c.args.model.now c.args.s.now c.args.outlooks.now c.as_slice-actions.result.now c.requires.outlooks all) in
-    search rules
-
-pub bounds-outlooks-number : goal.bounds-outlooks-number
-bounds-outlooks-number c =
-    let all = c.as_slice-actions.ensures ∙ ap (λ (m : Process). m.actions) c.model.view_is in
-    omega (arith, c.loop-number-test.true, length-outlooks c.args.model.now c.args.s.now c.args.outlooks.now c.as_slice-actions.result.now c.requires.outlooks all)
-
-pub bound_of-requires-clause-outlook : goal.bound_of-requires-clause-outlook
-bound_of-requires-clause-outlook c =
-    let all = c.as_slice-actions.ensures ∙ ap (λ (m : Process). m.actions) c.model.view_is in
-    outlook_read c.args.model.now c.args.s.now c.args.outlooks.now c.as_slice-actions.result.now 0 c.index-outlooks-0.result c.index-actions-0.result c.requires.outlooks all
-    (omega (arith, c.model.invariant.some_actions, ap length c.as_slice-actions.ensures)) c.index-outlooks-0.is c.index-actions-0.is
-
-pub loop-number-init : goal.loop-number-init
-loop-number-init c =
-    let f : Action → ℤ = λ a. bound_on c.args.side c.args.model.now (at (sizes c.args.model.now) c.args.values.now) a c.args.s.now in
-    let fits : FitsSigned w128 c.in_ok-best.best = search rules in
-    simp to_z-of_z (first_best_first f c.as_slice-actions.result.now c.index-actions-0.result c.in_ok-best.best (omega (arith, c.model.invariant.some_actions, ap length c.as_slice-actions.ensures)) c.index-actions-0.is c.in_ok-best.ensures)

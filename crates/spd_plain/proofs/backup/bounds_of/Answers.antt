@@ -8,16 +8,6 @@ use Rattle.spd_plain.specs.declared.outlook.Outlook.{Outlook}
 use Rattle.spd_plain.proofs.ReturnFits.{only_entry, only_limited, reward_limited}
 use Rattle.spd_plain.proofs.backup.bounds_of.Goals as goal
 
-pub discounted_return-requires-clause-expectation : goal.discounted_return-requires-clause-expectation
-discounted_return-requires-clause-expectation c =
-    let fits : FitsSigned w128 c.index.result.now = search rules in
-    simp to_z-of_z (only_limited c.expect.new.work.low.items c.index.result.now c.in_ok-expect.ensures.count.0 c.in_ok-expect.ensures.bounded.0 c.index.ensures)
-
-pub discounted_return-requires-2-clause-expectation : goal.discounted_return-requires-2-clause-expectation
-discounted_return-requires-2-clause-expectation c =
-    let fits : FitsSigned w128 c.index-2.result.now = search rules in
-    simp to_z-of_z (only_limited c.expect.new.work.high.items c.index-2.result.now c.in_ok-expect.ensures.count.1 c.in_ok-expect.ensures.bounded.1 c.index-2.ensures)
-
 pub returns-clause-low : goal.returns-clause-low
 returns-clause-low c =
     let value_fits : FitsSigned w128 c.index.result.now = search rules in
@@ -40,10 +30,10 @@ returns-clause-high c =
     let e = only_entry c.expect.new.work.high.items c.index-2.result.now _ c.in_ok-expect.ensures.count.1 c.in_ok-expect.ensures.high c.index-2.ensures in
     simp to_z-of_z (value ∙ (λ i. reward i +ℤ ceil_div (pos (discount i) *ℤ e i) (pos 1000000)))
 
-pub discounted_return-requires-clause-reward : goal.discounted_return-requires-clause-reward
-discounted_return-requires-clause-reward c =
-    let fits : FitsSigned w128 c.args.outlook.now.reward = search rules in
-    simp to_z-of_z (reward_limited c.args.model.now c.requires.values.valid c.args.action.now c.args.s.now c.args.outlook.now c.requires.action c.requires.state c.requires.outlook)
+pub discounted_return-requires-2-clause-expectation : goal.discounted_return-requires-2-clause-expectation
+discounted_return-requires-2-clause-expectation c =
+    let fits : FitsSigned w128 c.index-2.result.now = search rules in
+    simp to_z-of_z (only_limited c.expect.new.work.high.items c.index-2.result.now c.in_ok-expect.ensures.count.1 c.in_ok-expect.ensures.bounded.1 c.index-2.ensures)
 
 pub discounted_return-requires-2-clause-reward : goal.discounted_return-requires-2-clause-reward
 discounted_return-requires-2-clause-reward c =

@@ -8,22 +8,6 @@ use Rattle.spd_plain.specs.inner.Expectations.{rounding_of}
 use Rattle.spd_plain.proofs.ReturnFits.{product_fits, return_fits, keeps_on}
 use Rattle.spd_plain.proofs.backup.discounted_return.Goals as goal
 
-pub overflow_mul-product : goal.overflow_mul-product
-overflow_mul-product c =
-    let discount : to_z w128 c.args.discount ≡ pos c.args.discount = omega (arith, ints) in
-    let fits : FitsSigned w128 c.args.expectation = c.ranges.expectation in
-    simp to_z-of_z (rw discount (product_fits c.args.discount c.args.expectation c.requires.discount c.requires.expectation))
-
-pub overflow_add-result : goal.overflow_add-result
-overflow_add-result c =
-    let discount : to_z w128 c.args.discount ≡ pos c.args.discount = omega (arith, ints) in
-    let fits : FitsSigned w128 c.args.expectation = c.ranges.expectation in
-    let reward_fits : FitsSigned w128 c.args.reward = c.ranges.reward in
-    let product = product_fits c.args.discount c.args.expectation c.requires.discount c.requires.expectation in
-    let quotient_fits : FitsSigned w128 c.rounded.result = search rules in
-    let quotient = simp (discount, to_z-of_z) at c.rounded.ensures in
-    simp to_z-of_z (rw quotient (return_fits (rounding_of c.args.side) (keeps_on c.args.side) c.args.reward c.args.discount c.args.expectation c.requires.reward c.requires.discount c.requires.expectation))
-
 pub returns-clause-value : goal.returns-clause-value
 returns-clause-value c =
     let discount : to_z w128 c.args.discount ≡ pos c.args.discount = omega (arith, ints) in

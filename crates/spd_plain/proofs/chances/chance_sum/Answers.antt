@@ -1,14 +1,13 @@
-use Rattle.std.proofs.Common.{rules, ◌≡◌, ◌∙◌, ◌^◌, ◌≤◌, ◌<◌, ◌*◌, [], ℕ, ap, get_or, FitsSigned, arith, suc, add-one}
+use Rattle.std.proofs.Common.{rules, ◌∙◌, ◌^◌, ◌≤◌, ◌<◌, ◌*◌, [], ℕ, ap, get_or, FitsSigned, arith, suc, add-one}
 use Rattle.std.proofs.Math.Nat.{mul-le-mul_left}
 use Rattle.std.proofs.lemmas.Int.{to_z-of_z}
 use mir.Syntax.{w128}
-use Rattle.spd_model.specs.Numbers.{sum_below}
 use Rattle.spd_model.specs.States.{states}
 use Rattle.spd_model.specs.Chances.{sizes_after, probability}
 use Rattle.spd_model.proofs.CallerLemmas.Sums.{sum_below_more}
 use Rattle.spd_plain.specs.inner.Chances.{chance_of}
 use Rattle.spd_plain.proofs.Sums.{within_more, sum_fits}
-use Rattle.spd_plain.proofs.Tables.{axis_more, size_is}
+use Rattle.spd_plain.proofs.Tables.{axis_more}
 use Rattle.spd_plain.proofs.chances.chance_sum.Goals as goal
 
 few_values : (size after place v : ℕ) → size * after ≤ 4096 → place < after → v < size → suc v ≤ 2097152
@@ -33,11 +32,3 @@ loop-value-preserved c =
       sum = simp to_z-of_z (sum_below_more (λ v. probability m c.args.action.now c.args.s.now i v (get_or (states (sizes_after m i)) c.args.place [])) v _ _ c.loop-value.invariant.sum here);
       within = simp to_z-of_z within;
     }
-
-pub returns : goal.returns
-returns c =
-    let m = c.args.model.now in
-    let i = c.args.axis.now.var in
-    let value : c.loop-value.value ≡ c.args.axis.now.size = omega arith in
-    c.loop-value.invariant.sum
-    ∙ ap (λ (n : ℕ). sum_below n (λ v. probability m c.args.action.now c.args.s.now i v (get_or (states (sizes_after m i)) c.args.place []))) (value ∙ size_is m c.args.axis.now c.requires.axis)

@@ -1,46 +1,52 @@
-use Rattle.std.proofs.Common.{◌≡◌, ◌∙◌, ◌*◌, ◌≤◌, ℕ, List, ℤ, length, slice_get, ap, sym, subst, arith}
+use Rattle.std.proofs.Common.{◌≡◌, ◌∙◌, ◌*◌, ◌≤◌, ℕ, slice_get, ap, sym, subst, arith}
 use Rattle.std.specs.Option.{option_copied}
-use Rattle.spd_model.specs.Lawful.{IsLawful}
-use Rattle.spd_plain.specs.inner.Chances.{HoldFor, values_of}
-use Rattle.spd_plain.proofs.Known.{kept_at, values_hold}
-use Rattle.spd_plain.proofs.Tables.{size_is}
-use Rattle.spd_plain.proofs.Steps.{on_both, kept_tells}
+use Rattle.spd_plain.specs.declared.outlook.Outlook.{Outlook}
+use Rattle.spd_plain.specs.declared.reach.Reach.TheVariants.{Own}
+use Rattle.spd_plain.specs.inner.Chances.{values_of}
+use Rattle.spd_plain.specs.inner.Reach.{reach_at}
+use Rattle.spd_plain.proofs.Known.{kept_at, length-reaches, reach_read}
+use Rattle.spd_plain.proofs.Steps.{on_both, own_count, own_tells}
 use Rattle.spd_plain.proofs.chances.tell_chances.Goals as goal
+use Rattle.spd_plain.proofs.chances.tell_chances.Goals.{In-Own, In-Some}
+
+pub bounds : goal.bounds
+bounds c = omega (arith, c.requires.axis.near, length-reaches c.args.model.now c.args.action.now (c.as_slice.ensures ∙ ap (λ (o : Outlook). o.reaches) c.requires.outlook))
+
+own_is : (c : In-Own) → reach_at c.args.model.now c.args.action.now c.args.axis.now.var ≡ Own
+own_is c = sym (reach_read c.args.model.now c.args.action.now (c.as_slice.ensures ∙ ap (λ (o : Outlook). o.reaches) c.requires.outlook) c.args.axis.now.var Own c.requires.axis.near) ∙ c.in-Own.is
+
+-- what is kept
+kept_is : (c : In-Some) → c.in-Some.kept.now ≡ values_of c.args.model.now c.args.action.now c.args.s.now c.args.axis.now.var
+kept_is c =
+    kept_at c.args.model.now c.args.action.now c.args.s.now c.args.axis.now.var c.requires.axis.near c.in-Some.kept.now
+    (ap (λ (o : Outlook). slice_get o.kept c.args.axis.now.var) (sym c.requires.outlook) ∙ sym c.get.ensures.value ∙ ap option_copied c.in-Some.is)
 
 pub spread-requires : goal.spread-requires
 spread-requires c =
-    let m = c.args.model.now in
-    let a = c.args.action.now in
-    let s = c.args.s.now in
-    let axis = c.args.axis.now in
-    let law = subst IsLawful c.model.view_is c.model.invariant in
-    let hold = values_hold m law a c.requires.action axis.var c.requires.axis.near (sym c.requires.reach ∙ c.in-Own.is) s c.requires.state in
-    let own = kept_at m a s axis.var c.requires.axis.near c.in-Some.own.now (ap (λ (l : List (List ℤ)). slice_get l axis.var) (sym c.requires.kept) ∙ sym c.get.ensures.value ∙ ap option_copied c.in-Some.is) in
-    let size : length c.as_slice.result.now ≡ axis.size = ap length c.as_slice.ensures ∙ ap length own ∙ hold.count ∙ sym (size_is m axis c.requires.axis) in
-    record { room = omega (arith, subst (λ (n : ℕ). n * axis.after ≤ 4096) (sym size) c.requires.axis.few) }
+    let own = own_is (goal.at.spread-requires c).In-Own in
+    let kept = c.as_slice-in-Some.ensures ∙ kept_is (goal.at.spread-requires c).In-Some in
+    let size = own_count c.args.model.now c.args.action.now c.args.s.now c.args.axis.now c.requires.axis c.requires.action c.requires.state own c.as_slice-in-Some.result.now kept in
+    record { room = subst (λ (n : ℕ). n * c.args.axis.now.after ≤ 4096) (sym size) c.requires.axis.few }
 
 pub returns-in-Some : goal.returns-in-Some
 returns-in-Some c =
-    let m = c.args.model.now in
-    let a = c.args.action.now in
-    let s = c.args.s.now in
-    let axis = c.args.axis.now in
-    let law = subst IsLawful c.model.view_is c.model.invariant in
-    let hold = values_hold m law a c.requires.action axis.var c.requires.axis.near (sym c.requires.reach ∙ c.in-Own.is) s c.requires.state in
-    let own = kept_at m a s axis.var c.requires.axis.near c.in-Some.own.now (ap (λ (l : List (List ℤ)). slice_get l axis.var) (sym c.requires.kept) ∙ sym c.get.ensures.value ∙ ap option_copied c.in-Some.is) in
-    let told = subst (HoldFor m a s axis.var) (sym (c.as_slice.ensures ∙ own)) hold in
-    on_both c.spread.result (λ len each. kept_tells m a s axis c.requires.axis law c.as_slice.result.now c.spread.new.chances.items told len each) c.spread.ensures.len c.spread.ensures.each
+    let own = own_is (goal.at.returns-in-Some c).In-Own in
+    let kept = c.as_slice-in-Some.ensures ∙ kept_is (goal.at.returns-in-Some c).In-Some in
+    on_both c.spread.result
+    (own_tells c.args.model.now c.args.action.now c.args.s.now c.args.axis.now c.requires.axis c.requires.action c.requires.state own c.as_slice-in-Some.result.now kept c.spread.new.chances.items)
+    c.spread.ensures.len c.spread.ensures.each
 
-pub returns-in-None : goal.returns-in-None
-returns-in-None c =
-    let m = c.args.model.now in
-    let a = c.args.action.now in
-    let s = c.args.s.now in
-    let axis = c.args.axis.now in
-    let law = subst IsLawful c.model.view_is c.model.invariant in
-    let hold = values_hold m law a c.requires.action axis.var c.requires.axis.near (sym c.requires.reach ∙ c.in-Own.is) s c.requires.state in
-    let size : axis.size ≡ length (values_of m a s axis.var) = size_is m axis c.requires.axis ∙ sym hold.count in
-    on_both c.read_steady_chances.result
-    (λ len each. kept_tells m a s axis c.requires.axis law (values_of m a s axis.var) c.read_steady_chances.new.chances.items hold
-    (len ∙ ap (λ (n : ℕ). n * axis.after) size) (λ v k below near. each v k (omega (arith, size)) near))
-    c.read_steady_chances.ensures.len c.read_steady_chances.ensures.each
+pub spread-requires-in-None : goal.spread-requires-in-None
+spread-requires-in-None c =
+    let own = own_is (goal.at.spread-requires-in-None c).In-Own in
+    let kept = c.deref.ensures.value ∙ c.in_ok-read_own-in-None.ensures in
+    let size = own_count c.args.model.now c.args.action.now c.args.s.now c.args.axis.now c.requires.axis c.requires.action c.requires.state own c.deref.result.now kept in
+    record { room = subst (λ (n : ℕ). n * c.args.axis.now.after ≤ 4096) (sym size) c.requires.axis.few }
+
+pub returns-in_ok-read_own-in-None : goal.returns-in_ok-read_own-in-None
+returns-in_ok-read_own-in-None c =
+    let own = own_is (goal.at.returns-in_ok-read_own-in-None c).In-Own in
+    let kept = c.deref.ensures.value ∙ c.in_ok-read_own-in-None.ensures in
+    on_both c.spread-in-None.result
+    (own_tells c.args.model.now c.args.action.now c.args.s.now c.args.axis.now c.requires.axis c.requires.action c.requires.state own c.deref.result.now kept c.spread-in-None.new.chances.items)
+    c.spread-in-None.ensures.len c.spread-in-None.ensures.each

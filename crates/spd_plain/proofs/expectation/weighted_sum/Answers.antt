@@ -14,28 +14,28 @@ overflow_mul-sum c =
     let v = c.loop-value.value in
     let chance : FitsSigned w128 (entry c.args.after c.args.chances.now v c.args.place) = search rules in
     let value : FitsSigned w128 (entry c.args.after c.args.values.now v c.args.place) = search rules in
-    simp to_z-of_z (term_fits c.args.size c.args.after c.args.chances.now c.args.values.now c.requires.weights c.requires.count c.requires.values c.args.place c.requires.place v c.loop-value-test.true)
+    simp to_z-of_z (term_fits c.requires.ready c.args.place c.requires.place v c.loop-value-test.true)
 
 pub overflow_add-sum : goal.overflow_add-sum
 overflow_add-sum c =
     let v = c.loop-value.value in
     let chance : FitsSigned w128 (entry c.args.after c.args.chances.now v c.args.place) = search rules in
     let value : FitsSigned w128 (entry c.args.after c.args.values.now v c.args.place) = search rules in
-    let product = term_fits c.args.size c.args.after c.args.chances.now c.args.values.now c.requires.weights c.requires.count c.requires.values c.args.place c.requires.place v c.loop-value-test.true in
-    simp to_z-of_z (next_fits c.args.size c.args.after c.args.chances.now c.args.values.now c.requires.weights c.requires.count c.requires.values c.args.place c.requires.place v _ c.loop-value.invariant c.loop-value-test.true)
+    let product = term_fits c.requires.ready c.args.place c.requires.place v c.loop-value-test.true in
+    simp to_z-of_z (next_fits c.requires.ready c.args.place c.requires.place v _ c.loop-value.invariant c.loop-value-test.true)
 
 pub loop-value-preserved : goal.loop-value-preserved
 loop-value-preserved c =
     let v = c.loop-value.value in
     let chance : FitsSigned w128 (entry c.args.after c.args.chances.now v c.args.place) = search rules in
     let value : FitsSigned w128 (entry c.args.after c.args.values.now v c.args.place) = search rules in
-    let product = term_fits c.args.size c.args.after c.args.chances.now c.args.values.now c.requires.weights c.requires.count c.requires.values c.args.place c.requires.place v c.loop-value-test.true in
-    let fits = next_fits c.args.size c.args.after c.args.chances.now c.args.values.now c.requires.weights c.requires.count c.requires.values c.args.place c.requires.place v _ c.loop-value.invariant c.loop-value-test.true in
-    simp to_z-of_z (next_sum c.args.size c.args.after c.args.chances.now c.args.values.now c.requires.weights c.requires.count c.requires.values c.args.place c.requires.place v _ c.loop-value.invariant)
+    let product = term_fits c.requires.ready c.args.place c.requires.place v c.loop-value-test.true in
+    let fits = next_fits c.requires.ready c.args.place c.requires.place v _ c.loop-value.invariant c.loop-value-test.true in
+    simp to_z-of_z (next_sum c.requires.ready c.args.place c.requires.place v _ c.loop-value.invariant)
 
 pub returns-clause-within : goal.returns-clause-within
 returns-clause-within c =
     let all : c.loop-value.value ≡ c.args.size = omega arith in
     subst (IsWithin (one *ℤ pos value_limit))
     (sym (c.loop-value.invariant ∙ ap (λ (n : ℕ). sum_below n (λ v. entry c.args.after c.args.chances.now v c.args.place *ℤ entry c.args.after c.args.values.now v c.args.place)) all))
-    (part_within c.args.size c.args.after c.args.chances.now c.args.values.now c.requires.weights c.requires.count c.requires.values c.args.place c.requires.place c.args.size (omega arith))
+    (part_within c.requires.ready c.args.place c.requires.place c.args.size (omega arith))

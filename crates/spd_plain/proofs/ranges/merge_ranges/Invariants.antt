@@ -5,4 +5,4 @@ use Rattle.spd_plain.proofs.ranges.merge_ranges.Given as goal
 
 abbrev pub invariant-loop-range : goal.invariant-loop-range
 invariant-loop-range l = l.merged.items
-    ≡ map (value_in (groups_of l.fn.span (in_order (map range_of l.ranges)))) (map range_of (take l.range-index l.ranges))
+    ≡ map (λ r. value_in (groups_of l.fn.span (in_order (map range_of l.ranges))) (range_of r)) (take l.range-index l.ranges)

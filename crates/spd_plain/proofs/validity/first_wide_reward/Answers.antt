@@ -1,46 +1,22 @@
-use Rattle.std.proofs.Common.{◌≡◌, ◌∙◌, ℕ, ◌<◌, ◌≤◌, List, length, get_or, find, ap, sym, subst, not, nat_le, unsigned_abs, arith}
-use Rattle.std.specs.List.{enumerate_from}
-use Rattle.std.specs.Option.{option_map}
-use Rattle.std.proofs.lemmas.List.FromFn.{length-enumerate_from}
-use Rattle.spd_model.specs.declared.process.Action.{Action}
+use Rattle.std.proofs.Common.{◌∙◌, ap, sym, not, nat_le, unsigned_abs}
 use Rattle.spd_model.specs.Process.{Process}
 use Rattle.spd_model.specs.Chances.{Reward, reward_limit}
-use Rattle.spd_plain.specs.inner.Faults.{reward_record}
-use Rattle.spd_model.proofs.CallerLemmas.Finds.{find_flat_some, find_flat_more, find_flat_none, is_some-option_map}
 use Rattle.spd_model.proofs.CallerLemmas.Validity.{rewards_after}
-use Rattle.spd_plain.proofs.Numbered.{numbered}
+use Rattle.spd_plain.specs.inner.Faults.{reward_record}
+use Rattle.spd_plain.proofs.FirstFaults.{found_action, no_action, passed_action}
 use Rattle.spd_plain.proofs.validity.first_wide_reward.Goals as goal
 
 pub returns-then-is_some : goal.returns-then-is_some
 returns-then-is_some c =
-    let m = c.args.model.now in
-    let k = c.loop-number.number in
-    let a = c.action-item.result in
-    let actions : c.as_slice-action-items.result.now ≡ m.actions = c.as_slice-action-items.ensures ∙ ap (λ (m : Process). m.actions) c.model.view_is in
-    let near : k < length m.actions = subst (λ (l : List Action). k < length l) actions c.loop-number-test.true in
-    let counted : k < length (enumerate_from 0 m.actions) = omega (arith, length-enumerate_from 0 m.actions) in
-    let here = numbered m.actions k a near (c.action-item.is ∙ ap (λ (l : List Action). get_or l k a) actions) in
-    find_flat_some (λ (x : Reward). not (nat_le (unsigned_abs x.value) reward_limit)) (rewards_after m) (enumerate_from 0 m.actions) k (k, a) counted c.loop-number.invariant (option_map reward_record c.wide_reward_after-wide.result)
-    (is_some-option_map reward_record c.wide_reward_after-wide.result ∙ sym c.is_some.ensures ∙ c.if-is_some.true)
-    (c.wide_reward_after-wide.ensures ∙ ap (λ (x : ℕ × Action). find (λ (x : Reward). not (nat_le (unsigned_abs x.value) reward_limit)) (rewards_after m x)) (sym here))
+    found_action (λ (x : Reward). not (nat_le (unsigned_abs x.value) reward_limit)) (rewards_after c.args.model.now) (c.as_slice-action-items.ensures ∙ ap (λ (m : Process). m.actions) c.model.view_is) c.loop-number.number c.loop-number.invariant
+    reward_record c.wide_reward_after-wide.result c.loop-number-test.true c.action-item.result c.action-item.is c.wide_reward_after-wide.ensures (sym c.is_some.ensures ∙ c.if-is_some.true)
 
 pub loop-number-preserved : goal.loop-number-preserved
 loop-number-preserved c =
-    let m = c.args.model.now in
-    let k = c.loop-number.number in
-    let a = c.action-item.result in
-    let actions : c.as_slice-action-items.result.now ≡ m.actions = c.as_slice-action-items.ensures ∙ ap (λ (m : Process). m.actions) c.model.view_is in
-    let near : k < length m.actions = subst (λ (l : List Action). k < length l) actions c.loop-number-test.true in
-    let counted : k < length (enumerate_from 0 m.actions) = omega (arith, length-enumerate_from 0 m.actions) in
-    let here = numbered m.actions k a near (c.action-item.is ∙ ap (λ (l : List Action). get_or l k a) actions) in
-    find_flat_more (λ (x : Reward). not (nat_le (unsigned_abs x.value) reward_limit)) (rewards_after m) (enumerate_from 0 m.actions) k (k, a) counted c.loop-number.invariant (option_map reward_record c.wide_reward_after-wide.result)
-    (is_some-option_map reward_record c.wide_reward_after-wide.result ∙ sym c.is_some.ensures ∙ c.if-is_some.false)
-    (c.wide_reward_after-wide.ensures ∙ ap (λ (x : ℕ × Action). find (λ (x : Reward). not (nat_le (unsigned_abs x.value) reward_limit)) (rewards_after m x)) (sym here))
+    passed_action (λ (x : Reward). not (nat_le (unsigned_abs x.value) reward_limit)) (rewards_after c.args.model.now) (c.as_slice-action-items.ensures ∙ ap (λ (m : Process). m.actions) c.model.view_is) c.loop-number.number c.loop-number.invariant
+    reward_record c.wide_reward_after-wide.result c.loop-number-test.true c.action-item.result c.action-item.is c.wide_reward_after-wide.ensures (sym c.is_some.ensures ∙ c.if-is_some.false)
 
 pub returns : goal.returns
 returns c =
-    let m = c.args.model.now in
-    let actions : c.as_slice-action-items.result.now ≡ m.actions = c.as_slice-action-items.ensures ∙ ap (λ (m : Process). m.actions) c.model.view_is in
-    let done : length m.actions ≤ c.loop-number.number = subst (λ (l : List Action). length l ≤ c.loop-number.number) actions (omega arith) in
-    sym (find_flat_none (λ (x : Reward). not (nat_le (unsigned_abs x.value) reward_limit)) (rewards_after m) (enumerate_from 0 m.actions) c.loop-number.number
-    (omega (arith, length-enumerate_from 0 m.actions)) c.loop-number.invariant)
+    sym (no_action (λ (x : Reward). not (nat_le (unsigned_abs x.value) reward_limit)) (rewards_after c.args.model.now) (c.as_slice-action-items.ensures ∙ ap (λ (m : Process). m.actions) c.model.view_is) c.loop-number.number c.loop-number.invariant
+    c.loop-number-test.false)

@@ -1,13 +1,19 @@
-use Rattle.std.proofs.Common.{◌<◌, length, ◌∙◌, subst}
+use Rattle.std.proofs.Common.{◌≡◌, ◌<◌, length, ◌∙◌, sym, ap, subst}
 use Rattle.std.proofs.lemmas.Result.{err_from_is_err_and}
+use Rattle.spd_model.specs.declared.options.Options.{Options}
 use Rattle.spd_model.specs.Process.{Process}
 use Rattle.spd_model.specs.Lawful.{IsLawful}
+use Rattle.spd_model.specs.Stops.{Stop}
 use Rattle.spd_model.proofs.CallerLemmas.Validity.{is_valid}
+use Rattle.spd_frozen.specs.Fits.{FitsModel}
+use Rattle.spd_frozen.specs.Told.{told}
+use Rattle.spd_turn.proofs.CallerLemmas.{stop-told}
 use Rattle.spd_solver.specs.declared.command.Way.TheVariants.{Diagrams}
+use Rattle.spd_solver.specs.declared.solving.Solution.{Solution}
 use Rattle.spd_solver.specs.Solve.{value}
-use Rattle.spd_solver.specs.inner.Stages.{IsOf}
+use Rattle.spd_solver.specs.inner.Stages.{IsSolution}
 use Rattle.spd_solver.proofs.SolvingLaws.{is_solution}
-use Rattle.spd_solver.proofs.StopLaws.{start-fault, stop-why, stop-told, stop-fits}
+use Rattle.spd_solver.proofs.StopLaws.{start-fault}
 use Rattle.spd_solver.proofs.diagrams.solve_on_diagrams.Goals as goal
 
 pub start-requires-clause-valid : goal.start-requires-clause-valid
@@ -22,16 +28,18 @@ returns-in_err-run-clause-refused g c =
 
 pub returns-clause-solved : goal.returns-clause-solved
 returns-clause-solved g c =
-    let m = c.args.model.now in
-    let options = c.args.options in
-    let valid = is_valid m (subst IsLawful c.model.view_is c.model.invariant) c.in_ok-built.ensures.built.sums c.in_ok-built.ensures.built.rewards in
-    let some = subst (λ (m : Process). 0 < length m.actions) c.model.view_is c.model.invariant.some_actions in
-    let begun = c.in_ok-run.ensures.ok in
     let r = c.run_to_stop.new.run in
-    let of : IsOf m options r = record { same = c.run_to_stop.ensures.same.same ∙ begun.same; set = c.run_to_stop.ensures.same.set ∙ begun.set } in
-    let told = c.in_ok-iterate.ensures.cases ∙ c.now.ensures.iterate in
-    is_solution Diagrams m options _ valid (stop-why m options r of c.now.ensures.run c.in_ok-why.why c.in_ok-why.ensures.stops)
-    (stop-told m options r of c.now.ensures.run c.in_ok-why.why c.in_ok-why.ensures.stops _ told)
-    (c.law_bound.ensures.value m valid some (value m options))
-    (λ k. c.law_turns.ensures.done m valid options.span k options.turns)
-    (stop-fits m options r of c.now.ensures.run c.in_ok-why.why c.in_ok-why.ensures.stops _ told) tt
+    let m = r.process in
+    let options = r.options in
+    let run = c.now.ensures.run in
+    let x : Solution = record { iterate = c.in_ok-iterate.iterate; why = c.in_ok-why.why } in
+    let same : m ≡ c.args.model.now = c.run_to_stop.ensures.same.same ∙ c.in_ok-run.ensures.ok.same in
+    let set : options ≡ c.args.options = c.run_to_stop.ensures.same.set ∙ c.in_ok-run.ensures.ok.set in
+    let some = subst (λ (n : Process). 0 < length n.actions) (c.model.view_is ∙ sym same) c.model.invariant.some_actions in
+    let here = c.in_ok-iterate.ensures.cases ∙ c.now.ensures.iterate in
+    let stops = c.in_ok-why.ensures.stops in
+    subst (λ (n : Process). IsSolution Diagrams n c.args.options x) same
+    (subst (λ (o : Options). IsSolution Diagrams m o x) set
+    (is_solution Diagrams m options x run.valid (ap (λ (s : Stop). s.why) (sym stops)) (ap told here ∙ stop-told r run c.in_ok-why.why stops)
+    (c.law_bound.ensures.value m run.valid some (value m options)) (λ k. c.law_turns.ensures.done m run.valid options.span k options.turns)
+    (subst (FitsModel m) (sym here) run.fits) tt))

@@ -3,7 +3,7 @@ use Rattle.spd_weigh.proofs.TopLaws.{known-beside, placed-from, sum-ready, sum-t
 use Rattle.spd_weigh.proofs.sum.sum_out_with.Goals as goal
 
 pub clear-requires : goal.clear-requires
-clear-requires g c = record { known = rw c.in-Ok.ensures (known-beside (g.F.Forest.shows c.args.forest.now) c.args.f c.requires.known c.args.weights.now c.requires.weights_known) }
+clear-requires g c = record { sound = c.layout-layout.ensures.sound; zero = tt; known = rw c.in-Ok.ensures (known-beside (g.F.Forest.shows c.args.forest.now) c.args.f c.requires.known c.args.weights.now c.requires.weights_known) }
 
 pub make_list-requires : goal.make_list-requires
 make_list-requires g c =

@@ -9,6 +9,7 @@ loop-v-init g c =
       same = refl;
       keeps = refl;
       length_is = refl;
+      zero = c.requires.zero;
       known = search rules;
       like = like-same (trees_of (g.F.Forest.shows c.args.forest.now) c.args.list.now.items);
       cleared = tt;
@@ -16,14 +17,16 @@ loop-v-init g c =
 
 pub loop-v-preserved : goal.loop-v-preserved
 loop-v-preserved g c =
-    let like = rw c.loop-v.invariant.same at c.clear_value.ensures.like in
-    let known = rw c.loop-v.invariant.same at c.clear_value.ensures.known in
-    let cleared = rw c.loop-v.invariant.same at c.clear_value.ensures.cleared in
+    let like = rw c.loop-v.invariant.same at c.clear_value-zero.ensures.like in
+    let known = rw c.loop-v.invariant.same at c.clear_value-zero.ensures.known in
+    let zero = rw c.loop-v.invariant.same at c.clear_value-zero.ensures.zero in
+    let cleared = rw c.loop-v.invariant.same at c.clear_value-zero.ensures.cleared in
     let next : 2 * (c.loop-v.v + 1) ≡ 2 * c.loop-v.v + 2 = omega arith in
     record {
       same = search rules;
       keeps = search rules;
       length_is = search rules;
+      zero = zero;
       known = known;
       like = like _ c.loop-v.invariant.like;
       cleared = rw next (cleared c.loop-v.invariant.cleared);

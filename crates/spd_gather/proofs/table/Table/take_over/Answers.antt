@@ -10,9 +10,9 @@ loop-at-preserved c row m =
     elim c.match-index.branch [
       | in-Some w ↦
           let i = c.other.inside in
-          let key : take i.width (drop (c.loop-at.at * i.width) i.keys.items) ≡ w.list_at.result.now = sym (rw w.as_slice.ensures.value at w.list_at.ensures) in
+          let key : take i.width (drop (c.loop-at.at * i.width) i.keys.items) ≡ w.list_at-list.result.now = sym (rw w.as_slice.ensures.value at w.list_at-list.ensures) in
           let near : c.loop-at.at < length i.answers.items = search (rules, arith) in
-          let found = row-found i.width i.keys.items i.answers.items c.args.other.now c.loop-at.at c.index.result.now w.list_at.result.now w.in-Some.r c.other.view_is near (search rules) (search rules) key in
+          let found = row-found i.width i.keys.items i.answers.items c.args.other.now c.loop-at.at c.index.result.now w.list_at-list.result.now w.in-Some.r c.other.view_is near (search rules) (search rules) key in
           elim (w.write.ensures row (subst (λ (l : List Row). Contains l row) w.self-is m)) [
             | inl b ↦ c.loop-at.invariant row b
             | inr b ↦ inr (subst (λ (x : Row). Contains c.args.other.now x) (sym b) found)

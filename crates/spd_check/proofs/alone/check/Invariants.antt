@@ -1,4 +1,0 @@
-use Rattle.spd_check.proofs.alone.check.Given as goal
-
-abbrev pub ghosts-check_uncounted : goal.ghosts-check_uncounted
-ghosts-check_uncounted a = record { name = a.blank.name; parts = a.blank.parts }

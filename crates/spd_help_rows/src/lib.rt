@@ -1,0 +1,7 @@
+//! Tests of what a person at a terminal is told: the whole text of each call, worked out by hand.
+#![tactic(auto)]
+
+#[cfg(test)]
+mod remembering;
+#[cfg(test)]
+mod texts;

@@ -1,0 +1,137 @@
+//! What a person at a terminal is told behind the message of a status.
+
+use spd_help::{
+    Goal, Screen, tell_node_limit, tell_refusal, tell_sum, tell_system, tell_turn_limit, tell_usage,
+};
+use spd_model::{Model, Word};
+use spd_reader::read_model;
+use spd_solver::{FILE_LIMIT, Stage, Status};
+use spd_words::{Command, read_words, text_at};
+use std::alloc::{AllocError, Global};
+use std::rt::Files;
+use std::{fs, io, str};
+
+/// What a command read, as far as a person is told of it.
+#[derive(Clone, Copy)]
+pub(crate) struct Told<'a> {
+    /// The words of the command.
+    pub words: &'a [Word],
+    /// The bytes of its file, or none where they aren't known.
+    pub bytes: &'a [u8],
+}
+
+impl Told<'_> {
+    /// The name of the command's file, and the turn limit.
+    fn file(&self) -> Option<(&[u8], u32)> {
+        match read_words(self.words) {
+            Ok(Command::Solve { file, options } | Command::Plain { file, options }) => {
+                Some((text_at(self.words, file), options.turns))
+            }
+            _ => None,
+        }
+    }
+
+    /// The model of the command's file.
+    fn model(&self, alloc: Global) -> Option<Model> {
+        if self.bytes.len() > FILE_LIMIT {
+            return None;
+        }
+        read_model(alloc, self.bytes).ok()
+    }
+
+    /// What the model says of when its runs end.
+    fn goal(&self, alloc: Global) -> Option<Goal> {
+        let model = self.model(alloc)?;
+        Some(Goal {
+            discount: model.discount,
+            tolerance: model.tolerance,
+        })
+    }
+}
+
+/// Why the system doesn't open a file or read it, asked anew. Nothing is known of standard input, and no file is opened where that may wait.
+fn fault_of<R: Files>(rt: &R, name: &[u8]) -> Option<io::ErrorKind> {
+    if name == b"-".as_slice() {
+        return None;
+    }
+    let Ok(path) = str::from_utf8(name) else {
+        return Some(io::ErrorKind::InvalidInput);
+    };
+    match fs::metadata(rt, path) {
+        Ok(metadata) if metadata.is_dir() => Some(io::ErrorKind::IsADirectory),
+        Ok(metadata) if metadata.is_file() => match fs::open(rt, path) {
+            Ok(_) => None,
+            Err(error) => Some(error.kind()),
+        },
+        Ok(_) => None,
+        Err(error) => Some(error.kind()),
+    }
+}
+
+/// Adds why the system doesn't open a file or read it, where that is known.
+fn tell_fault<R: Files>(rt: &R, screen: &mut Screen, name: &[u8]) -> Result<(), AllocError> {
+    match fault_of(rt, name) {
+        Some(kind) => tell_system(screen, kind),
+        None => Ok(()),
+    }
+}
+
+/// The name under which a person knows a file.
+fn shown_name(name: &[u8]) -> &[u8] {
+    if name == b"-".as_slice() {
+        b"standard input"
+    } else {
+        name
+    }
+}
+
+/// Adds what a person is told of a status.
+pub(crate) fn tell<R: Files>(
+    rt: &R,
+    alloc: Global,
+    screen: &mut Screen,
+    status: &Status,
+    told: Told<'_>,
+) -> Result<(), AllocError> {
+    let (file, turns) = told.file().unwrap_or((b"", 0));
+    let name = shown_name(file);
+    match status {
+        Status::Usage { word } => tell_usage(screen, told.words, *word),
+        Status::OpenFault { name } | Status::ReadFault { name } => {
+            tell_fault(rt, screen, name.as_slice())
+        }
+        Status::Refused { refusal } => tell_refusal(alloc, screen, name, told.bytes, *refusal),
+        Status::Sum {
+            action,
+            var,
+            sum,
+            ..
+        } => {
+            tell_sum(
+                alloc,
+                screen,
+                name,
+                told.bytes,
+                action.as_slice(),
+                var.as_slice(),
+                *sum,
+            )
+        }
+        Status::TurnLimit { residual } => match told.goal(alloc) {
+            Some(goal) => tell_turn_limit(screen, goal, turns, *residual),
+            None => Ok(()),
+        },
+        Status::NodeLimit { stage, limit } => {
+            let is_turn = matches!(stage, Stage::Turn(_));
+            tell_node_limit(screen, told.goal(alloc), is_turn, *limit)
+        }
+        Status::TooLong { .. } => screen.line(&[b"  A model file has at most 4194304 bytes."]),
+        Status::TooManyStates { .. } => {
+            screen.line(&[b"  `plain` takes at most 4096 states, `solve` any number of them."])
+        }
+        Status::Range { .. } => screen.line(&[
+            b"  A reward minus the action's cost is at most 1000000000 above or below zero.",
+        ]),
+        Status::Done | Status::WriteFault | Status::Memory => Ok(()),
+    }
+}
