@@ -180,11 +180,6 @@ m check m c
 m check m -
 m check m c --nodes 16 --memo 5
 m upgrade m c --memo 5
-. gen 2
-. gen 63
-. gen 02
-. ring 2
-. ring 63 --workers 2 --nodes 16 --turns 5 --span 0 --memo 1
 m horizon m
 m horizon m --steps 0
 m horizon m --steps 1000 --nodes 16 --memo 1
@@ -202,6 +197,15 @@ m ask m --workers 2 q --nodes 16 a
 - ask - q a
 """
 
+# Words that name no file, each with its status and its message.
+RINGS = [
+    ("gen 2", 0, ""),
+    ("gen 63", 0, ""),
+    ("gen 02", 0, ""),
+    ("ring 2", 0, ""),
+    ("ring 63 --workers 2 --nodes 16 --turns 5 --span 0 --memo 1", 9, "node limit 16 passed in building"),
+]
+
 CLIENTS = " ".join("q%d a%d" % (i, i) for i in range(64))
 
 
@@ -216,6 +220,12 @@ def cases():
     yield ("ask m " + CLIENTS + " q64 a64").split(), "usage: word 130", 2
 
 
+def ends(program, folder, words, status, message):
+    """Whether words that name no file end so, whatever is written."""
+    ran = subprocess.run([program, *words.split()], cwd=folder, stdin=subprocess.DEVNULL, capture_output=True)
+    return (ran.returncode, ran.stderr.decode()) == (status, message + "\n" if message else "")
+
+
 def main():
     program, failed, number = os.path.abspath(sys.argv[1]), False, 0
     with tempfile.TemporaryDirectory() as folder:
@@ -226,7 +236,11 @@ def main():
             if found != (status, message + "\n", b"") or os.listdir(folder):
                 failed = True
                 print("FAILED  %s: %r in place of status %d, %r" % (" ".join(words), found, status, message))
-    print("done    %d cases of words" % number)
+        for words, status, message in RINGS:
+            if not ends(program, folder, words, status, message):
+                failed = True
+                print("FAILED  %s: not status %d, %r" % (words, status, message))
+    print("done    %d cases of words" % (number + len(RINGS)))
     sys.exit(1 if failed else 0)
 
 

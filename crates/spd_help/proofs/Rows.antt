@@ -11,6 +11,6 @@ shown-row = refl
 
 -- the second byte of the second line of `a`, `bc`
 place-row : place_text (codes "m") (97 ∷ 10 ∷ 98 ∷ 99 ∷ []) 3 (record { number = 2; start = 2; end = 4 })
-  ≡ codes "  m, line 2, column 2" ++ (10 ∷ codes "    bc" ++ (10 ∷ codes "     ^" ++ 10 ∷ []))
+    ≡ codes "  m, line 2, column 2" ++ (10 ∷ codes "    bc" ++ (10 ∷ codes "     ^" ++ 10 ∷ []))
 unfolding shown_byte
 place-row = refl

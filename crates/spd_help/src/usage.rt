@@ -7,15 +7,13 @@ use spd_model::Word;
 use std::alloc::AllocError;
 
 /// The commands that can be run.
-const COMMANDS: [&[u8]; 4] = [b"solve", b"plain", b"help", b"version"];
+const COMMANDS: [&[u8]; 6] = [b"solve", b"plain", b"gen", b"ring", b"help", b"version"];
 
 /// The commands that are planned.
-const PLANNED: [&[u8]; 8] = [
+const PLANNED: [&[u8]; 6] = [
     b"ask",
     b"check",
     b"upgrade",
-    b"gen",
-    b"ring",
     b"horizon",
     b"evaluate",
     b"bounded",

@@ -18,6 +18,8 @@ mod outside;
 #[cfg(test)]
 mod refused;
 #[cfg(test)]
+mod rings;
+#[cfg(test)]
 mod solved;
 #[cfg(test)]
 mod tables;

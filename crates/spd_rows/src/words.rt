@@ -33,8 +33,6 @@ const USAGE: &[(Words, &str)] = &[
     // Commands that aren't run yet.
     (&["ask", "m"], "usage: word 0\n"),
     (&["check", "m", "c"], "usage: word 0\n"),
-    (&["gen", "2"], "usage: word 0\n"),
-    (&["ring", "2", "--turns", "0"], "usage: word 0\n"),
     (&["upgrade", "m", "c"], "usage: word 0\n"),
     (&["horizon", "m"], "usage: word 0\n"),
     (&["evaluate", "m", "c"], "usage: word 0\n"),

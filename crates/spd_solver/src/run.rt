@@ -121,33 +121,35 @@ fn run_job<R: Threads + Sync, G: Gate + Watch, P: Place, K: Sink>(
 /// Runs the command that the words give on the files of a place, writes its text to an output, and says how it ended.
 ///
 /// The commands are `solve`, which goes over decision diagrams, and `plain`, which goes over tables, each with the name of a file, where `-`
-/// stands for standard input, and with options, `gen`, which writes the file of a ring of 2 to 63 machines, and `ring`, which solves that file on diagrams
-/// and writes a summary of its result; the words are those of `spd_words`. Turns on diagrams are made by as many threads of `rt` as
-/// the options say, and the gate is told of each turn and of each action's backup: neither has a part in the result. A file is opened once,
-/// read to its end and closed; nothing is written before the whole result is known. What the clauses say, of every place, output and list
-/// of words:
+/// stands for standard input, and with options; `gen`, which writes the file of a ring of 2 to 63 machines; and `ring`, which solves that
+/// file on diagrams and writes a summary of its result. The words are those of `spd_words`. Turns on diagrams are made by as many threads
+/// of `rt` as the options say, and the gate is told of each turn and of each action's backup: neither has a part in the result. A file is
+/// opened once, read to its end and closed; nothing is written before the whole result is known. What the clauses say, of every place,
+/// output and list of words:
 ///
 /// - `headline`: a command that ends with a whole text (`Done`, `TurnLimit`) wrote exactly the text that the definitions give of its file
 ///   and options, which is that of a valid process, and nothing else; and the value and policy in it are optimal up to the residual over
 ///   one minus the discount, for every state, course of action and number of steps. Where a turn up to the turn limit is enough, as the
-///   definitions tell after turn 0, it ends with `Done`.
+///   definitions tell after turn 0, it ends with `Done`. Of `ring` the same holds of the ring's process, and the text is the summary; of
+///   `gen` the text is the ring's file.
 /// - `means`: what each kind of end says: where a text was written, whole or in part, and where the file is refused or passes the node
 ///   limit, the file was opened and closed again, and no read of it failed; a text that was cut off is a front of that text, and the
-///   output's count of faults rose; what is refused has its cause in the file, at the first fault; where the node limit is told
-///   (`NodeLimit`, by `solve` alone), the named stage of the file's process has more nodes than the options allow, and a turn that is named
-///   is one to which the run comes; a file that couldn't be opened or read has its count of faults risen, and wasn't opened, or was; and
-///   with none of the last three anything was written.
+///   output's count of faults rose; what is refused has its cause in the file, at the first fault, and a ring is never refused; where the
+///   node limit is told (`NodeLimit`, by `solve` and `ring` alone), the named stage of the process has more nodes than the options allow,
+///   and a turn that is named is one to which the run comes; a file that couldn't be opened or read has its count of faults risen, and
+///   wasn't opened, or was; and with none of the last three anything was written.
 /// - `complete`: a lawful file of a valid process is solved, unless the outside fails or memory runs out: by `solve` where neither building
-///   nor a turn that the run comes to has more nodes than the options allow, and by `plain` where it has at most 4,096 states.
+///   nor a turn that the run comes to has more nodes than the options allow, and by `plain` where it has at most 4,096 states; and so is a
+///   ring, where its stages have no more nodes.
 /// - `refused`: a file that is refused ends the command with that refusal, unless the outside fails, memory runs out, or building has more
 ///   nodes than the options allow, which may be told instead.
 /// - `usage`, `idle`: `Usage` comes exactly where the words can't be run, with the first word that can't stand; then nothing is touched.
 /// - `asked`, `closed`, `never_falls`, `holds`, `outputs`, `named`: the place is asked for no file but the command's, what was opened is
-///   closed, no count falls, and all else stays.
+///   closed, no count falls, and all else stays. `gen` and `ring` ask for none.
 ///
-/// Want of memory alone (`Memory`) has no cause in a clause; `gen` takes none, and ends with `Done` unless a write fails. The file's bytes are those that the place holds, where it tells them. Where it
-/// doesn't, as the system's files don't, the clauses speak of some bytes: what was written is then still the whole right text of a model
-/// file, and a refusal one that a file has.
+/// Want of memory alone (`Memory`) has no cause in a clause; `gen` takes none, and ends with `Done` unless a write fails. The file's bytes
+/// are those that the place holds, where it tells them. Where it doesn't, as the system's files don't, the clauses speak of some bytes: what
+/// was written is then still the whole right text of a model file, and a refusal one that a file has.
 pub fn solve_run<R: Threads + Sync, G: Gate + Watch, P: Place, K: Sink>(
     rt: &R,
     gate: &G,
