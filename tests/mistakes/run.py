@@ -26,6 +26,8 @@ WORDS = [
     (["solve", "model", "--nodes=1"], 2, "usage: word 2", ["16 to 8388608"]),
     (["plain", "model", "--nodes", "100"], 2, "usage: word 2", ["no option of `plain`"]),
     (["solve", "-m"], 2, "usage: word 1", ["A file whose name begins with `-` is given behind the word `--`"]),
+    (["gen"], 2, "usage: word 1", ["N is missing: a number of machines from 2 to 63"]),
+    (["ring", "64"], 2, "usage: word 1", ["`64` can't stand here: the one operand is a number of machines from 2 to 63"]),
     (["solve", "\x1b[31mred", "more"], 2, "usage: word 2", ["`more` is one operand too many"]),
     (["solve", "missing"], 3, "cannot open missing", ["There is no such file or folder."]),
     (["solve", "folder"], 3, "cannot read folder", ["It is a folder."]),

@@ -79,8 +79,16 @@ fn values_of(option: &[u8]) -> Option<&'static [u8]> {
     }
 }
 
+/// Whether a command's operand is a number of machines.
+fn is_of_ring(command: &[u8]) -> bool {
+    command == b"gen".as_slice() || command == b"ring".as_slice()
+}
+
 /// Whether a command takes an option.
 fn takes(command: &[u8], option: &[u8]) -> bool {
+    if command == b"gen".as_slice() {
+        return false;
+    }
     command != b"plain".as_slice()
         || option == b"--turns".as_slice()
         || option == b"--span".as_slice()
@@ -191,6 +199,11 @@ fn tell_word(screen: &mut Screen, words: &[Word], number: usize) -> Result<(), A
     match role_of(words, number) {
         Role::Value(option) => tell_value(screen, text(words, option), Some(word)),
         Role::Any if is_option(word) => tell_option(screen, text(words, 0), word),
+        _ if is_of_ring(text(words, 0)) => screen.line(&[
+            b"  `",
+            word,
+            b"` can't stand here: the one operand is a number of machines from 2 to 63.",
+        ]),
         _ if word.is_empty() => screen.line(&[b"  The name of a file isn't empty."]),
         _ => screen.line(&[b"  `", word, b"` is one operand too many."]),
     }
@@ -200,6 +213,9 @@ fn tell_word(screen: &mut Screen, words: &[Word], number: usize) -> Result<(), A
 fn tell_missing(screen: &mut Screen, words: &[Word]) -> Result<(), AllocError> {
     match role_of(words, words.len()) {
         Role::Value(option) => tell_value(screen, text(words, option), None),
+        _ if is_of_ring(text(words, 0)) => {
+            screen.line(&[b"  N is missing: a number of machines from 2 to 63."])
+        }
         _ => screen.line(&[
             b"  A FILE is missing: the name of a model file, or `-` for standard input.",
         ]),

@@ -24,14 +24,14 @@ spudd: near-optimal values and policies of factored Markov decision processes
     spudd solve FILE    solves the model in FILE on decision diagrams, and
                         prints the result; `-` is standard input
     spudd plain FILE    the same over tables of up to 4096 states
-    spudd gen N         prints the model of a ring of N machines, 2 to 63
-    spudd ring N        solves that model on decision diagrams, and prints a
+    spudd gen N         writes the file of a ring of N machines: 2 to 63
+    spudd ring N        solves that file on decision diagrams, and prints a
                         summary of the result
     spudd help          prints this page, as -h and --help do
     spudd version       prints the version, as -V and --version do
 
 Options, as --turns 20 or --turns=20. Behind the word -- no word is an option.
-`plain` takes --turns and --span alone, and `gen` takes none.
+`plain` takes --turns and --span alone, `gen` takes none.
 
     --turns N      the last turn that a run may reach: 0 to 1000000, else 10000
     --span X       values whose range is at most this wide become one:

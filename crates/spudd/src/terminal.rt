@@ -11,6 +11,12 @@ use std::alloc::{AllocError, Global};
 use std::rt::Files;
 use std::{fs, io, str};
 
+/// What the file of a ring says of it: a discount of 0.95 and a tolerance of 0.1.
+const RING: Goal = Goal {
+    discount: 950_000,
+    tolerance: 100_000_000,
+};
+
 /// What a command read, as far as a person is told of it.
 #[derive(Clone, Copy)]
 pub(crate) struct Told<'a> {
@@ -21,9 +27,10 @@ pub(crate) struct Told<'a> {
 }
 
 impl Told<'_> {
-    /// The name of the command's file, and the turn limit.
+    /// The name of the command's file, or none of a ring, and the turn limit.
     fn file(&self) -> Option<(&[u8], u32)> {
         match read_words(self.words) {
+            Ok(Command::Ring { options, .. }) => Some((&[], options.turns)),
             Ok(Command::Solve { file, options } | Command::Plain { file, options }) => {
                 Some((text_at(self.words, file), options.turns))
             }
@@ -41,6 +48,9 @@ impl Told<'_> {
 
     /// What the model says of when its runs end.
     fn goal(&self, alloc: Global) -> Option<Goal> {
+        if let Ok(Command::Ring { .. }) = read_words(self.words) {
+            return Some(RING);
+        }
         let model = self.model(alloc)?;
         Some(Goal {
             discount: model.discount,
