@@ -10,4 +10,5 @@ mod ListLaws
 mod OrderLaws
 mod OwnLaws
 mod Rows
+mod TextLaws
 mod VerdictLaws

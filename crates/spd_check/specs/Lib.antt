@@ -1,4 +1,5 @@
 pub mod Certificates
 pub mod Faults
 pub mod Functions
+pub mod Texts
 pub mod inner

@@ -19,8 +19,10 @@ mod highest;
 mod judging;
 mod once;
 mod own;
+mod text;
 mod verdict;
 
 pub use alone::check;
 pub use checking::check_in;
+pub use text::{Judgement, Unjudged, judge_text};
 pub use verdict::{CheckFault, Verdict};

@@ -6,7 +6,7 @@ use std::alloc::Global;
 use std::test::Fail;
 
 /// The result of solving `KEEP`.
-const KEPT: &str = "spd result 1
+pub const KEPT: &str = "spd result 1
 status done
 turn 5
 residual 0.015625000

@@ -11,3 +11,5 @@ mod models;
 mod reading;
 #[cfg(test)]
 mod solved;
+#[cfg(test)]
+mod texts;
