@@ -1,14 +1,16 @@
 -- The names of a ring: which words they are, and which number each of them has.
-use Rattle.std.proofs.Common.{◌≡◌, ◌≢◌, ℕ, zero, suc, ◌+◌, ◌-◌, ◌<◌, ◌≤◌, Bool, true, false, cond, List, [], ◌∷◌, ◌++◌, length, map, take, get_or, Some, None, Ok, refl, sym, ap, ◌∙◌, arith, codes, decimal}
-use Rattle.std.specs.Prelude.{◌&&◌, ◌||◌, not, nat_lt, slice_index_or, position, All}
-use Rattle.std.specs.List.{prefix_len, list_any}
+use Rattle.std.proofs.Common.{◌≡◌, ℕ, zero, suc, ◌+◌, ◌-◌, ◌<◌, ◌≤◌, Bool, true, false, cond, List, [], ◌∷◌, ◌++◌, length, map, take, get_or, Some, None, Ok, refl, sym, ap, ◌∙◌, arith, codes, decimal}
+use Rattle.std.specs.Prelude.{◌&&◌, not, nat_lt, slice_index_or, position}
+use Rattle.std.specs.List.{prefix_len}
 use Rattle.std.specs.Str.{bytes_eq}
 use Rattle.std.proofs.Math.Seq.{take-append_seam}
-use Rattle.std.proofs.lemmas.Bool.{and_parts, false_from_ne_true}
+use Rattle.std.proofs.lemmas.Bool.{and_parts}
 use Rattle.std.proofs.lemmas.Bool.Decides.{nat_tests}
 use Rattle.std.proofs.lemmas.List.{get_or-map, length-map, length-append}
 use Rattle.std.proofs.lemmas.List.Elements.{All-cons, All-map}
+use Rattle.std.proofs.lemmas.List.Folds.{list_any_none}
 use Rattle.std.proofs.lemmas.Slice.Eq.{bytes_eq-Decides}
+use Rattle.spd_edge.proofs.CallerLemmas.{bytes_eq-other}
 use Rattle.spd_model.specs.declared.process.Var.{Var}
 use Rattle.spd_model.specs.Numbers.{numbers_below}
 use Rattle.spd_model.proofs.CallerLemmas.Lists.{length-numbers_below, get_or-numbers_below, All-numbers_below, map-map}
@@ -89,9 +91,6 @@ position-at p xs i d near stop pass =
     let inside : nat_lt i (length xs) ≡ true = grind (arith, nat_tests) in
     ap (λ (k : ℕ). cond (nat_lt k (length xs)) (Some k) None) first ∙ ap (λ (b : Bool). cond b (Some i) None) inside
 
-differs : (a b : List ℕ) → a ≢ b → bytes_eq a b ≡ false
-differs a b h = false_from_ne_true (bytes_eq a b) (λ same. h ((bytes_eq-Decides a b).0 same))
-
 name-at : (n i : ℕ) (d : List ℕ) → i < n → get_or (map machine (numbers_below n)) i d ≡ machine i
 name-at n i d h = get_or-map machine (numbers_below n) i 0 d (omega (arith, length-numbers_below n)) ∙ ap machine (get_or-numbers_below n i h)
 
@@ -107,7 +106,7 @@ number-of n i few near =
     ap (λ (names : List (List ℕ)). number_in names (machine i)) (names-are n)
     ∙ position-at (bytes_eq (machine i)) (map machine (numbers_below n)) i [] (omega (arith, length-map (numbers_below n) machine, length-numbers_below n))
     (ap (bytes_eq (machine i)) (name-at n i [] near) ∙ (bytes_eq-Decides (machine i) (machine i)).1 refl)
-    (λ k h. ap (bytes_eq (machine i)) (name-at n k [] (omega arith)) ∙ differs (machine i) (machine k) (λ e. machines-differ k i h (omega arith) (sym e)))
+    (λ k h. ap (bytes_eq (machine i)) (name-at n k [] (omega arith)) ∙ bytes_eq-other (machine i) (machine k) (λ e. machines-differ k i h (omega arith) (sym e)))
 
 pub values-at : (n i : ℕ) → i < n → values_of (declared n) (Some i) ≡ codes "up" ∷ codes "down" ∷ []
 values-at n i h =
@@ -118,23 +117,17 @@ values-at n i h =
 
 -- ---- names that aren't among others
 
-pub none-any : {X : Type 0} (p : X → Bool) (xs : List X) → All (λ x. p x ≡ false) xs → list_any p xs ≡ false
-none-any p [] h = refl
-none-any p (x ∷ xs) h =
-    let rest = none-any p xs (λ k d near. h (suc k) d (omega arith)) in
-    ap (λ (b : Bool). b || list_any p xs) (h 0 x (omega arith)) ∙ rest
-
 pub machine-new : (n j : ℕ) → j < 63 → is_among (var_names (map variable (numbers_below j))) (machine j) ≡ false
 machine-new n j h =
     ap (λ (names : List (List ℕ)). is_among names (machine j)) (names-are j)
-    ∙ none-any (bytes_eq (machine j)) (map machine (numbers_below j))
+    ∙ list_any_none (bytes_eq (machine j)) (map machine (numbers_below j))
     (All-map (λ name. bytes_eq (machine j) name ≡ false) machine (numbers_below j)
-    (All-numbers_below (λ k. bytes_eq (machine j) (machine k) ≡ false) j (λ k near. differs (machine j) (machine k) (λ e. machines-differ k j near h (sym e)))))
+    (All-numbers_below (λ k. bytes_eq (machine j) (machine k) ≡ false) j (λ k near. bytes_eq-other (machine j) (machine k) (λ e. machines-differ k j near h (sym e)))))
 
 -- the name of an action that reboots a machine isn't among those before it
 pub reboot-new : (j : ℕ) → j < 63 → is_among (codes "noop" ∷ map reboot_name (numbers_below j)) (reboot_name j) ≡ false
 reboot-new j h =
-    none-any (bytes_eq (reboot_name j)) (codes "noop" ∷ map reboot_name (numbers_below j))
-    (All-cons (λ name. bytes_eq (reboot_name j) name ≡ false) (codes "noop") (map reboot_name (numbers_below j)) (differs (reboot_name j) (codes "noop") (λ e. noop-differs j (sym e)))
+    list_any_none (bytes_eq (reboot_name j)) (codes "noop" ∷ map reboot_name (numbers_below j))
+    (All-cons (λ name. bytes_eq (reboot_name j) name ≡ false) (codes "noop") (map reboot_name (numbers_below j)) (bytes_eq-other (reboot_name j) (codes "noop") (λ e. noop-differs j (sym e)))
     (All-map (λ name. bytes_eq (reboot_name j) name ≡ false) reboot_name (numbers_below j)
-    (All-numbers_below (λ k. bytes_eq (reboot_name j) (reboot_name k) ≡ false) j (λ k near. differs (reboot_name j) (reboot_name k) (λ e. reboots-differ k j near h (sym e))))))
+    (All-numbers_below (λ k. bytes_eq (reboot_name j) (reboot_name k) ≡ false) j (λ k near. bytes_eq-other (reboot_name j) (reboot_name k) (λ e. reboots-differ k j near h (sym e))))))
