@@ -1,2 +1,1 @@
-mod HalfLaws
 mod PartsLaws
