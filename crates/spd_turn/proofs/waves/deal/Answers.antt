@@ -1,8 +1,12 @@
 use Rattle.std.proofs.Common.{◌≡◌, ℕ, ◌+◌, ◌-◌, [], ◌∷◌, ◌++◌, length, sym, ap, ◌∙◌, subst, arith}
 use Rattle.std.proofs.lemmas.List.{length-append}
+use Rattle.std.specs.Vec.Iter.{into_iter_len}
+use Rattle.std.proofs.lemmas.Iterator.Adapters.{YieldsList-from_vec}
+use Rattle.std.proofs.lemmas.Iterator.Consumers.{YieldsList-turn}
 use Rattle.spd_cons.specs.Values.{TableValue}
 use Rattle.spd_nodes.specs.Grove.{StandingValue, shown_of}
 use Rattle.spd_nodes.specs.Shown.{Shown}
+use Rattle.spd_turn.specs.Jobs.{HoldFor}
 use Rattle.spd_turn.specs.Waves.{EachFrom, IsDealt}
 use Rattle.spd_turn.proofs.WaveLaws.{each-push, stand}
 use Rattle.spd_turn.proofs.waves.deal.Goals as goal
@@ -27,3 +31,13 @@ loop-tables-preserved c =
       action = omega (arith, here.action, longer);
       dealt = subst (EachFrom P c.args.first) (sym more) (each-push P c.args.first c.loop-tables.jobs.items c.job_of.result here.dealt dealt);
     }
+
+pub job_of-requires-clause-tables : goal.job_of-requires-clause-tables
+job_of-requires-clause-tables c =
+    let gives = c.into_iter-tables-iterator.ensures.into_iter_gives in
+    let long : into_iter_len c.into_iter-tables-iterator.result ≡ length c.args.lanes.items = gives.1 ∙ c.args.lanes.ok.0 in
+    let list = YieldsList-from_vec {s = c.into_iter-tables-iterator.result} c.args.lanes.items gives.0 long in
+    let turn = YieldsList-turn list c.loop-tables.yielded c.loop-tables.tables-iterator c.loop-tables.yielded_by c.next.result c.next.new.self c.in-Some.tables c.in-Some.is c.next.ensures.steps in
+    let x = c.args.thawed.now in
+    let here : HoldFor x (shown_of c.args.grove.now) c.in-Some.tables = subst (HoldFor x (shown_of c.args.grove.now)) (sym turn.1) (c.requires.tables (length c.loop-tables.yielded) c.in-Some.tables turn.0) in
+    subst (λ (s : Shown). HoldFor x s c.in-Some.tables) (sym c.loop-tables.invariant.shows) here
