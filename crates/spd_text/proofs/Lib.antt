@@ -1,2 +1,3 @@
 pub mod WritingLaws
 pub mod TextLaws
+mod Rows

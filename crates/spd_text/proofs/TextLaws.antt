@@ -16,6 +16,7 @@ use Rattle.spd_model.specs.declared.process.Var.{Var}
 use Rattle.spd_model.specs.declared.Why.{Why}
 use Rattle.spd_model.specs.Process.{Process}
 use Rattle.spd_model.specs.Reduced.{Node}
+use Rattle.spd_model.specs.Turns.{Place}
 use Rattle.spd_model.specs.ResultText.{line, units, why_text, side_text, action_name, var_name, value_name, state_words, node_line, nodes_text, place_line, text_of}
 use Rattle.spd_nodes.specs.declared.leaf.Leaf.{Leaf}
 use Rattle.spd_nodes.specs.declared.leaf.Leaf.TheVariants.{Num, Pair, Act}
@@ -29,6 +30,7 @@ use Rattle.spd_edge.proofs.CallerLemmas.{pieces-more}
 use Rattle.spd_text.specs.inner.Pieces.{spaced, leaf_text}
 use Rattle.spd_text.specs.inner.Parts.{title_text, head_text, end_words, end_text, top_text, counts_text}
 use Rattle.spd_text.specs.Summary.{summary_text}
+use Rattle.spd_text.specs.Failure.{failure_line}
 
 -- pieces before, one piece, and those behind it
 pub pieces-split : (pieces : List (Bor (List ℕ))) (i : ℕ) (d : Bor (List ℕ)) → i < length pieces
@@ -212,6 +214,23 @@ place-is words side action error =
   where
     regroup-place : (at ws p s a n e : List ℕ) → (at ++ ws) ++ ((((p ++ s) ++ ((p ++ a) ++ [])) ++ n) ++ e) ≡ ((at ++ (ws ++ ((p ++ s) ++ ((p ++ a) ++ [])))) ++ n) ++ e
     regroup-place at ws p s a n e = simp (append_assoc, append-nil)
+
+-- the side and the action of a place, and the end of its line
+pub choice-is : (side action : List ℕ) → (32 ∷ []) ++ (side ++ ((32 ∷ []) ++ (action ++ ((10 ∷ []) ++ [])))) ≡ spaced (side ∷ action ∷ []) ++ 10 ∷ []
+choice-is side action = regroup-choice (32 ∷ []) side action (10 ∷ [])
+  where
+    regroup-choice : (p s a n : List ℕ) → p ++ (s ++ (p ++ (a ++ n))) ≡ ((p ++ s) ++ ((p ++ a) ++ [])) ++ n
+    regroup-choice p s a n = simp (append_assoc, append-nil)
+
+-- the line of a place at which a certificate fails
+pub failure-is : (m : Process) (p : Place)
+    → (codes "no" ++ spaced (state_words m p.state)) ++ (spaced (side_text p.side ∷ action_name m p.action ∷ []) ++ 10 ∷ []) ≡ failure_line m p
+failure-is m p =
+    let words = state_words m p.state in
+    let choice = side_text p.side ∷ action_name m p.action ∷ [] in
+    sym (append_assoc (codes "no" ++ spaced words) (spaced choice) (10 ∷ []))
+    ∙ sym (ap (λ (t : List ℕ). t ++ 10 ∷ []) (words-spaced (codes "no") (words ++ choice) ∙ ap (λ (t : List ℕ). codes "no" ++ t) (spaced-append words choice)
+    ∙ sym (append_assoc (codes "no") (spaced words) (spaced choice))))
 
 -- the lines of a turn, with the whole line of its place
 pub top-is : (m : Process) (why : Why) (x : Iterate)

@@ -1,3 +1,4 @@
 pub mod Writing
 pub mod Summary
+pub mod Failure
 pub mod inner

@@ -4,12 +4,14 @@
 //! it where a write fails.
 #![tactic(auto)]
 
+mod failure;
 mod names;
 mod nodes;
 mod result;
 mod summary;
 mod waiting;
 
+pub use failure::write_failure;
 pub use names::{action_name, value_name, var_name};
 pub use result::write_result;
 pub use summary::write_summary;

@@ -113,7 +113,7 @@ fn put_head<K: Sink>(
 }
 
 /// Writes `variable=value` for each variable in order, each behind a space.
-fn put_state<K: Sink>(
+pub(crate) fn put_state<K: Sink>(
     k: &mut K,
     waiting: &mut Waiting,
     model: &Model,
