@@ -1,3 +1,4 @@
+pub mod CallerLemmas
 pub mod WordLaws
 pub mod NumberLaws
 pub mod UnitLaws

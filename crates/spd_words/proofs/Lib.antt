@@ -2,5 +2,6 @@ pub mod CallerLemmas
 mod Digits
 mod Judged
 mod Limits
+mod Operands
 mod Sizes
 mod Rows
