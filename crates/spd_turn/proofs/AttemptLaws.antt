@@ -1,5 +1,8 @@
 -- A turn in a table of its own: what is made, and what is known afterwards.
-use Rattle.std.proofs.Common.{◌≡◌, ℕ, ◌+◌, ◌<◌, ◌≤◌, List, ◌++◌, length, refl, sym, ◌∙◌, ap, subst, ℤ, true, Result, Ok, Err, IfOk, IfErr, OnOk, arith}
+use Rattle.std.proofs.Common.{◌≡◌, ℕ, ◌+◌, ◌<◌, ◌≤◌, ◌==◌, List, [], ◌++◌, length, refl, sym, ◌∙◌, ap, subst, ℤ, true, Result, Ok, Err, IfOk, IfErr, OnOk, arith, inl, inr}
+use Rattle.std.specs.List.{list_any}
+use Rattle.std.proofs.lemmas.Bool.{true≢false}
+use Rattle.spd_cons_core.specs.declared.key.Entry.{Entry}
 use Rattle.spd_cons_core.specs.Invariants.{shares}
 use Rattle.spd_cons.specs.Values.{SeatValue, TableValue, IsSeatOf, first_seat}
 use Rattle.spd_model.specs.Process.{Process}
@@ -12,6 +15,7 @@ use Rattle.spd_nodes.specs.KnownTrees.{shown_by}
 use Rattle.spd_nodes.specs.Made.{HasMade, MakesAll}
 use Rattle.spd_nodes.specs.Shown.{Shown, FaultsAt, Faults}
 use Rattle.spd_nodes.specs.States.{Function, test_trees}
+use Rattle.spd_nodes.specs.Trees.{IsNodeOf}
 use Rattle.spd_nodes.proofs.CallerLemmas.{Among, among-front, among-trans, grows-then, has-then, has-wider, stands-grows}
 use Rattle.spd_backup.specs.declared.backing.Bounds.{Bounds}
 use Rattle.spd_backup.specs.Expected.{IsMade}
@@ -22,7 +26,7 @@ use Rattle.spd_turn.specs.Parts.{ArePartsOf, MakesParts, carried_functions}
 use Rattle.spd_turn.specs.Turn.{CanFinish, count_nodes, finish_functions, greatest_low, turn_functions, value_of_turn}
 use Rattle.spd_turn.specs.Waves.{AreBackedUp, all_backups}
 use Rattle.spd_turn.proofs.BackupLaws.{count-actions}
-use Rattle.spd_turn.proofs.CountLaws.{more-nodes}
+use Rattle.spd_turn.proofs.CountLaws.{more-nodes, published-few}
 use Rattle.spd_turn.proofs.TurnLaws.{among-backups, among-finish, backed-bounds}
 use Rattle.spd_turn.proofs.WaveLaws.{backed-grow}
 
@@ -108,9 +112,19 @@ module _ (m : Process) (span : ℤ) (k room : ℕ) (sz : List ℕ) (layout : sz 
   abbrev all : List Function
   all = turn_functions m span (table_of_turn m span k)
 
+  none-first : first.mind.published ≡ []
+  none-first = ap (λ (z : SeatValue). z.mind.published) begins
+
+  -- what a seat published since the table was made
+  only-turn : (s : SeatValue) → HasMade (shown_by sz first) (shown_by sz s) all → (r : Entry) → (shown_by sz s).published r ≡ true → IsNodeOf ((shown_by sz s).tree r) (test_trees sz all)
+  only-turn s made r there = elim (made.makes.only r there) [
+    | inl old ↦ absurd (true≢false (sym old ∙ ap (list_any (λ p. p.0 == r.0)) none-first))
+    | inr new ↦ new
+  ]
+
   small : (s : SeatValue) → HasMade (shown_by sz first) (shown_by sz s) all → IsSeatOf s → s.table ≡ table → shares s.mind ≡ table.size.most → s.mind.ended ≡ true → room < nodes_of_turn m span k
   small s made of own whole full =
-      let past : s.table.size.limit < count_nodes sz all = more-nodes sz first s all made (ap (λ (z : SeatValue). z.mind.published) begins) of full (whole ∙ sym (ap (λ (z : TableValue). z.size.most) own)) in
+      let past : s.table.size.limit < count_nodes sz all = more-nodes sz first s all made none-first of full (whole ∙ sym (ap (λ (z : TableValue). z.size.most) own)) in
       let limit : s.table.size.limit ≡ room = ap (λ (z : TableValue). z.size.limit) own ∙ for.limit in
       subst (λ n. n < nodes_of_turn m span k) limit (subst (λ z. s.table.size.limit < count_nodes z all) layout past)
 
@@ -156,4 +170,6 @@ module _ (m : Process) (span : ℤ) (k room : ℕ) (sz : List ℕ) (layout : sz 
           stands = omega (arith, left, shared, rewards-count, begun.stands, begun.splits);
           splits = omega (arith, left, rewards-count, begun.splits);
           knows = subst (λ z. KnowsTurn m span k (shown_by z u)) layout knows;
+          only = subst (λ z. (r : Entry) → (shown_by z u).published r ≡ true → IsNodeOf ((shown_by z u).tree r) (test_trees z all)) layout (only-turn u turn-all);
+          few = subst (λ z. length u.mind.published ≤ count_nodes z all) layout (published-few sz first u all turn-all none-first of');
         }

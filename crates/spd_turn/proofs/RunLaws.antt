@@ -39,11 +39,11 @@ start-value m span =
 
 -- ---- a run at a turn
 
--- a turn in its table, whose iterate is x, is a run where it is within the limit and the stop rule holds at no turn before
+-- a turn in its table, whose iterate is x, is a run where turn and table are within the limits and the stop rule holds at no turn before
 pub run-from : (m : Process) (b : Built) (o : Options) (k : ℕ) (a : Attempt) (x : Iterate) → x ≡ a.finished.iterate → IsValid m → IsBuilt m b → AreOptions o
-    → IsTurnIn m o.span k a → k ≤ o.turns → ((j : ℕ) → j < k → rule_at m o.span j ≡ false)
+    → IsTurnIn m o.span k a → a.cons.size.limit ≤ o.nodes → k ≤ o.turns → ((j : ℕ) → j < k → rule_at m o.span j ≡ false)
     → IsRun (record { process = m; built = b; options = o; iterate = x; next = a.finished.next; table = a.cons; seat = a.seat })
-run-from m b o k a x same valid built opts t within before =
+run-from m b o k a x same valid built opts t room within before =
     let told : IsTurnOf m o.span k x = subst (IsTurnOf m o.span k) (sym same) t.finished.told in
     let e : k ≡ x.turn = sym told.number in
     record {
@@ -56,6 +56,7 @@ run-from m b o k a x same valid built opts t within before =
       within = subst (λ n. n ≤ o.turns) e within;
       before = subst (λ n. (j : ℕ) → j < n → rule_at m o.span j ≡ false) e before;
       holds = subst (λ n. HoldsTurn m o.span n a.cons a.seat) e t.holds;
+      room = room;
     }
 
 -- where the rule doesn't hold at the present turn either, it holds at none before the next

@@ -37,7 +37,8 @@ pub record RunValue : Type 0 where
   pub table : TableValue
   pub seat : SeatValue
 
--- A run of a valid process stands at a turn, in the table of this turn. The stop rule holds at no turn before.
+-- A run of a valid process stands at a turn, in the table of this turn, which has no more room than the node limit. The stop rule holds at
+-- no turn before.
 pub record IsRun (r : RunValue) : Type 0 where
   pub valid : IsValid r.process
   pub built : IsBuilt r.process r.built
@@ -48,6 +49,7 @@ pub record IsRun (r : RunValue) : Type 0 where
   pub within : r.iterate.turn ≤ r.options.turns
   pub before : (j : ℕ) → j < r.iterate.turn → rule_at r.process r.options.span j ≡ false
   pub holds : HoldsTurn r.process r.options.span r.iterate.turn r.table r.seat
+  pub room : r.table.size.limit ≤ r.options.nodes
 
 -- The run stands at a turn of the same process, with the same options.
 pub record StandsAt (process : Process) (options : Options) (k : ℕ) (r : RunValue) : Type 0 where

@@ -52,6 +52,8 @@ pub fn turn_in_room<G: Gate, R: Threads + Sync, L: Ledger>(
     requires room_low { 16 ≤ room }
     requires room_high { room ≤ options.nodes }
     ensures ok { IfOk result (IsTurnIn model.now options.span turn) }
+    ensures room_least { IfOk result (λ a. room ≤ a.cons.size.limit) }
+    ensures room { IfOk result (λ a. a.cons.size.limit ≤ options.nodes) }
     ensures fault { IfErr result (IsFaultOf model.now options.span options.nodes turn) }
 {
     match try_turn(

@@ -1,6 +1,7 @@
 //! A run of value iteration.
 
-ghost use Rattle.std.specs.Prelude.{◌≡◌, ◌≤◌, ◌<◌, IfOk, IfErr};
+ghost use Rattle.std.specs.Prelude.{◌≡◌, ◌+◌, ◌≤◌, ◌<◌, min, max, IfOk, IfErr};
+ghost use Rattle.std.specs.Int.{IsNextPowerOfTwo};
 ghost use Rattle.std.specs.Arc.{arc_value};
 ghost use Rattle.spd_model.specs.Chances.{IsValid};
 ghost use Rattle.spd_model.specs.Options.{AreOptions};
@@ -12,7 +13,7 @@ ghost use Rattle.spd_turn.specs.Runs.{IsFaultOf, IsRun, StandsAt, AnswersRun};
 use crate::ending::Finished;
 use crate::rooms::{TurnFault, turn_in_room};
 use crate::telling::is_done;
-use crate::trying::Attempt;
+use crate::trying::{Attempt, seats_of};
 use spd_build::Built;
 use spd_cons::{Cons, Seat};
 use spd_frozen::{Frozen, Iterate};
@@ -84,6 +85,7 @@ fn make_turn<G: Gate, R: Threads + Sync, L: Ledger>(
     requires room_low { 16 ≤ room }
     requires room_high { room ≤ options.nodes }
     ensures ok { IfOk result (IsTurnIn model.now options.span turn) }
+    ensures room { IfOk result (λ a. a.cons.size.limit ≤ options.nodes) }
     ensures fault { IfErr result (IsFaultOf model.now options.span options.nodes turn) }
 {
     let mut steps = Steps::<L>::new(blank);
@@ -92,18 +94,55 @@ fn make_turn<G: Gate, R: Threads + Sync, L: Ledger>(
     )
 }
 
-/// Below how many nodes a turn's successor may need many times as many: the first turns of a run grow fast.
-const FEW_NODES: usize = 8_192;
+/// The room that the table of a turn has at least, where the node limit allows it.
+const FIRST_ROOM: usize = 1_024;
 
-/// The room with which a turn begins, after one that made so many nodes: twice as many, or eight times where these were few, and at
-/// least 1,024, but no more than `nodes`.
-fn room_after(made: usize, nodes: u32) -> u32
-    requires { 16 ≤ nodes }
+/// How many nodes are expected of the turn after turn `turn`, which made so many: the first turns of a run grow fast.
+fn expected_after(turn: u32, made: usize) -> usize
+    ensures { made ≤ result }
+{
+    match turn {
+        0 => made.saturating_mul(8),
+        1 => made.saturating_mul(2),
+        _ => made.saturating_add(made / 2),
+    }
+}
+
+/// The greatest limit of a table of `seats` seats that has as many buckets as one of this limit: their number is a power of two, at least
+/// twice that of the limit and the seats.
+fn fill_up(limit: u32, seats: u32) -> u32
+    requires limit { limit ≤ 8388608 }
+    requires seats { seats ≤ 128 }
+    ensures { IsNextPowerOfTwo (limit + seats) (result + seats) }
+{
+    (limit + seats).next_power_of_two() - seats
+}
+
+/// The room with which a turn begins of which so many nodes are expected: at least for these and for 1,024, filled up to the greatest
+/// one with as many buckets, but no more than `nodes`.
+fn room_for(expected: usize, seats: u32, nodes: u32) -> u32
+    requires nodes_low { 16 ≤ nodes }
+    requires nodes_high { nodes ≤ 8388608 }
+    requires seats { seats ≤ 128 }
     ensures low { 16 ≤ result }
+    ensures enough { min nodes (max 1024 expected) ≤ result }
     ensures high { result ≤ nodes }
 {
-    let times = if made < FEW_NODES { 8 } else { 2 };
-    made.saturating_mul(times).max(1024).min(nodes as usize) as u32
+    let least = expected.max(FIRST_ROOM).min(nodes as usize) as u32;
+    fill_up(least, seats).min(nodes)
+}
+
+/// The room with which the turn after turn `turn` begins, which made so many nodes: at least as much as these need, but no more than
+/// `nodes`.
+fn room_after(turn: u32, made: usize, seats: u32, nodes: u32) -> u32
+    requires nodes_low { 16 ≤ nodes }
+    requires nodes_high { nodes ≤ 8388608 }
+    requires seats { seats ≤ 128 }
+    ensures low { 16 ≤ result }
+    ensures enough { min nodes (max 1024 made) ≤ result }
+    ensures high { result ≤ nodes }
+{
+    room_for(expected_after(turn, made), seats, nodes)
 }
 
 impl<'a> Run<'a> {
@@ -126,7 +165,7 @@ impl<'a> Run<'a> {
     {
         // Reading a field tells the proof what every model keeps.
         let _vars = &model.vars;
-        let room = room_after(0, options.nodes);
+        let room = room_for(FIRST_ROOM, seats_of(model), options.nodes);
         let Attempt {
             finished,
             cons,
@@ -189,7 +228,8 @@ impl<'a> Run<'a> {
         if turn == self.options.turns {
             return Ok(Advance::Stopped(Why::Limit));
         }
-        let room = room_after(self.seat.published(), self.options.nodes);
+        let made = self.seat.published();
+        let room = room_after(turn, made, seats_of(model), self.options.nodes);
         let Attempt {
             finished,
             cons,

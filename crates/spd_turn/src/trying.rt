@@ -150,6 +150,14 @@ fn turn_in<'a, G: Gate, R: Threads + Sync, L: Ledger>(
     (grove.seat(), finished)
 }
 
+/// How many seats a turn's table has: one for each action beside the first one.
+pub fn seats_of(model: &Model) -> u32
+    ensures count { result ≡ length model.now.actions + 1 }
+    ensures few { result ≤ 128 }
+{
+    model.actions.len() as u32 + 1
+}
+
 /// Turn `turn` of value iteration on a valid model in a table of its own, which has room for `room` nodes and a seat for each action beside
 /// the first one. `value` is the turn's value as a list of nodes.
 ///
@@ -173,14 +181,16 @@ pub fn try_turn<G: Gate, R: Threads + Sync, L: Ledger>(
     requires room_low { 16 ≤ room }
     requires room_high { room ≤ 8388608 }
     ensures ok { IfOk result (IsTurnIn model.now options.span turn) }
+    ensures room { IfOk result (λ a. a.cons.size.limit ≡ room) }
     ensures fault { IfErr result (IsTooSmall model.now options.span turn room) }
 {
-    let actions = model.actions.len() as u32;
+    // Reading a field tells the proof what every model keeps.
+    let _vars = &model.vars;
     let layout = match layout_of(alloc, model) {
         Ok(layout) => layout,
         Err(_) => return Err(OpFault::Memory),
     };
-    let (cons, first) = match Cons::new(alloc, room, actions + 1) {
+    let (cons, first) = match Cons::new(alloc, room, seats_of(model)) {
         Ok(opened) => opened,
         Err(_) => return Err(OpFault::Memory),
     };

@@ -25,8 +25,7 @@ returns-in_err-parts-clause-fault g c =
     let law : IsLawful m = subst IsLawful c.model.view_is c.model.invariant in
     let is : IsValueList m (value_of_turn m span k) c.args.value.now = record { bounded = turn-bounded m law c.requires.valid span k; list = c.requires.value } in
     let table = c.in-Ok-new.opened.0 in
-    let count : c.len-actions.result ≡ length m.actions = search rules in
-    let for : IsTableFor m c.args.room table = record { limit = c.in-Ok-new.ensures.limit; most = c.in-Ok-new.ensures.most ∙ ap (λ n. n + 1) count } in
+    let for : IsTableFor m c.args.room table = record { limit = c.in-Ok-new.ensures.limit; most = c.in-Ok-new.ensures.most ∙ c.seats_of.ensures.count } in
     let made = c.thaw_in-begun.ensures.made (value_of_turn m span k) is in
     subst (λ r. IfErr r (IsTooSmall m span k c.args.room)) (sym (err_is c.from_residual.result c.in_err-parts.field-0.0 c.from_residual.ensures.1))
     (parts-small m span k c.args.room c.in-Ok.layout c.in-Ok.ensures table for c.in-Ok-new.opened.1 c.in-Ok-new.ensures.seat c.thaw_in-begun.result.0 c.thaw_in-begun.ensures.standing c.facts.ensures c.thaw_in-begun.result.1 made c.in_err-parts.field-0.0 c.in_err-parts.was)
@@ -39,8 +38,7 @@ turn_in-seat-requires-clause-ready g c κs within =
     let law : IsLawful m = subst IsLawful c.model.view_is c.model.invariant in
     let is : IsValueList m (value_of_turn m span k) c.args.value.now = record { bounded = turn-bounded m law c.requires.valid span k; list = c.requires.value } in
     let table = c.in-Ok-new.opened.0 in
-    let count : c.len-actions.result ≡ length m.actions = search rules in
-    let for : IsTableFor m c.args.room table = record { limit = c.in-Ok-new.ensures.limit; most = c.in-Ok-new.ensures.most ∙ ap (λ n. n + 1) count } in
+    let for : IsTableFor m c.args.room table = record { limit = c.in-Ok-new.ensures.limit; most = c.in-Ok-new.ensures.most ∙ c.seats_of.ensures.count } in
     let made = c.thaw_in-begun.ensures.made (value_of_turn m span k) is in
     parts-ready m span k c.args.room c.in-Ok.layout c.in-Ok.ensures table for c.in-Ok-new.opened.1 c.in-Ok-new.ensures.seat c.thaw_in-begun.result.0 c.thaw_in-begun.ensures.standing c.facts.ensures c.thaw_in-begun.result.1 made c.in_ok-parts.parts c.in_ok-parts.was
 
@@ -52,8 +50,7 @@ turn_in-seat-requires-clause-splits g c κs within =
     let law : IsLawful m = subst IsLawful c.model.view_is c.model.invariant in
     let is : IsValueList m (value_of_turn m span k) c.args.value.now = record { bounded = turn-bounded m law c.requires.valid span k; list = c.requires.value } in
     let table = c.in-Ok-new.opened.0 in
-    let count : c.len-actions.result ≡ length m.actions = search rules in
-    let for : IsTableFor m c.args.room table = record { limit = c.in-Ok-new.ensures.limit; most = c.in-Ok-new.ensures.most ∙ ap (λ n. n + 1) count } in
+    let for : IsTableFor m c.args.room table = record { limit = c.in-Ok-new.ensures.limit; most = c.in-Ok-new.ensures.most ∙ c.seats_of.ensures.count } in
     let made = c.thaw_in-begun.ensures.made (value_of_turn m span k) is in
     parts-few m span k c.args.room c.in-Ok.layout c.in-Ok.ensures table for c.in-Ok-new.opened.1 c.in-Ok-new.ensures.seat c.thaw_in-begun.result.0 c.thaw_in-begun.ensures.standing c.facts.ensures c.thaw_in-begun.result.1 made c.in_ok-parts.parts c.in_ok-parts.was
 
@@ -65,8 +62,7 @@ returns-in_err-finished-clause-fault g c =
     let law : IsLawful m = subst IsLawful c.model.view_is c.model.invariant in
     let is : IsValueList m (value_of_turn m span k) c.args.value.now = record { bounded = turn-bounded m law c.requires.valid span k; list = c.requires.value } in
     let table = c.in-Ok-new.opened.0 in
-    let count : c.len-actions.result ≡ length m.actions = search rules in
-    let for : IsTableFor m c.args.room table = record { limit = c.in-Ok-new.ensures.limit; most = c.in-Ok-new.ensures.most ∙ ap (λ n. n + 1) count } in
+    let for : IsTableFor m c.args.room table = record { limit = c.in-Ok-new.ensures.limit; most = c.in-Ok-new.ensures.most ∙ c.seats_of.ensures.count } in
     let made = c.thaw_in-begun.ensures.made (value_of_turn m span k) is in
     subst (λ r. IfErr r (IsTooSmall m span k c.args.room)) (sym (err_is c.from_residual-in_err-finished.result c.in_err-finished.field-0.0 c.from_residual-in_err-finished.ensures.1))
     (turn-small m span k c.args.room c.in-Ok.layout c.in-Ok.ensures table for c.in-Ok-new.opened.1 c.in-Ok-new.ensures.seat c.thaw_in-begun.result.0 c.thaw_in-begun.ensures.standing c.facts.ensures c.thaw_in-begun.result.1 made c.in_ok-parts.parts c.in_ok-parts.was c.turn_in-seat.result.0 c.facts-2.ensures c.turn_in-seat.ensures.table c.turn_in-seat.ensures.shares c.turn_in-seat.ensures.made c.turn_in-seat.result.1 c.turn_in-seat.ensures.full c.in_err-finished.field-0.0 c.in_err-finished.was)
@@ -79,8 +75,7 @@ returns-clause-ok g c =
     let law : IsLawful m = subst IsLawful c.model.view_is c.model.invariant in
     let is : IsValueList m (value_of_turn m span k) c.args.value.now = record { bounded = turn-bounded m law c.requires.valid span k; list = c.requires.value } in
     let table = c.in-Ok-new.opened.0 in
-    let count : c.len-actions.result ≡ length m.actions = search rules in
-    let for : IsTableFor m c.args.room table = record { limit = c.in-Ok-new.ensures.limit; most = c.in-Ok-new.ensures.most ∙ ap (λ n. n + 1) count } in
+    let for : IsTableFor m c.args.room table = record { limit = c.in-Ok-new.ensures.limit; most = c.in-Ok-new.ensures.most ∙ c.seats_of.ensures.count } in
     let made = c.thaw_in-begun.ensures.made (value_of_turn m span k) is in
     record {
       finished = ok-of (IsFinished m span k) c.turn_in-seat.result.1 c.turn_in-seat.ensures.finished c.in_ok-finished.was;

@@ -96,7 +96,7 @@ invariant_of-self g c =
     let now : c.deref-2.result.now.turn ≡ r.iterate.turn = ap (λ (x : Iterate). x.turn) c.deref-2.ensures in
     let i = c.self.invariant in
     run-from r.process r.built r.options (c.deref-2.result.now.turn + 1) c.in_ok-finished.field-0 (arc_value c.in-Ok.iterate) c.in-Ok.ensures.ok i.valid i.built i.options
-    c.in_ok-finished.ensures.ok (omega (arith, i.within, now, c.if-turn-self.false)) (λ j h. one-more r i no j (omega (arith, now)))
+    c.in_ok-finished.ensures.ok c.in_ok-finished.ensures.room (omega (arith, i.within, now, c.if-turn-self.false)) (λ j h. one-more r i no j (omega (arith, now)))
 
 pub returns : goal.returns
 returns g c =

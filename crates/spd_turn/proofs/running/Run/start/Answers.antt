@@ -9,4 +9,4 @@ make_turn-requires-clause-value g c κs within = c.requires.built.start ∙ star
 pub invariant_of-result : goal.invariant_of-result
 invariant_of-result g c =
     run-from c.args.model.now c.args.built.now c.args.options 0 c.in_ok-finished.field-0 (arc_value c.in-Ok.iterate) c.in-Ok.ensures.ok c.requires.valid c.requires.built
-    c.requires.options c.in_ok-finished.ensures.ok (omega arith) (λ j h. absurd (omega arith))
+    c.requires.options c.in_ok-finished.ensures.ok c.in_ok-finished.ensures.room (omega arith) (λ j h. absurd (omega arith))
