@@ -4,6 +4,8 @@
 #[cfg(test)]
 mod faults;
 #[cfg(test)]
+mod machine;
+#[cfg(test)]
 mod made;
 #[cfg(test)]
 mod models;

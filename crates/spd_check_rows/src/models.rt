@@ -148,3 +148,17 @@ reward [+ (1000000000) (0.000000001)]
 discount 0.5
 tolerance 0.1
 ";
+
+/// A machine that breaks one time in ten when it is left alone, and that may be repaired.
+pub const MACHINE: &str = "(variables (machine up down))
+action wait
+machine (machine (up (machine' (up (0.9)) (down (0.1)))) (down (machine' (up (0)) (down (1)))))
+endaction
+action repair
+machine (machine' (up (0.95)) (down (0.05)))
+cost (2)
+endaction
+reward (machine (up (10)) (down (0)))
+discount 0.9
+tolerance 0.1
+";
