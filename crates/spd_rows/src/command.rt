@@ -52,7 +52,7 @@ pub fn words<R: AllocGlobal>(rt: &R, texts: &[&str]) -> Result<Vec<Word>, AllocE
 }
 
 /// The message of a status, which fits into 1,000 bytes.
-fn message<R: AllocGlobal>(rt: &R, status: &Status) -> Result<Vec<u8>, AllocError> {
+pub fn message<R: AllocGlobal>(rt: &R, status: &Status) -> Result<Vec<u8>, AllocError> {
     let mut errors = MemOut::new(rt.alloc(), 1000, 7, Vec::new(rt.alloc()))?;
     match write_message(status, &mut errors) {
         Ok(()) => errors.taken().to_vec(rt.alloc()),

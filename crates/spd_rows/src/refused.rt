@@ -9,7 +9,7 @@ use std::test::Fail;
 use std::thread::Threads;
 
 /// The file with the second part in the place where the first stands for the first time.
-fn edited(alloc: Global, file: &[u8], from: &[u8], to: &[u8]) -> Result<Vec<u8>, Fail> {
+pub fn edited(alloc: Global, file: &[u8], from: &[u8], to: &[u8]) -> Result<Vec<u8>, Fail> {
     for at in 0..file.len() {
         let (front, rest) = file.split_at(at);
         if let Some(back) = rest.strip_prefix(from) {

@@ -1,5 +1,5 @@
 -- What building a process comes to, and why it fails.
-use Rattle.std.proofs.Common.{◌≡◌, ◌<◌, [], Err, refl, sym, ◌∙◌, ap, subst}
+use Rattle.std.proofs.Common.{◌≡◌, ◌<◌, [], Err, refl, subst}
 use Rattle.spd_model.specs.declared.options.Options.{Options}
 use Rattle.spd_model.specs.Process.{Process}
 use Rattle.spd_model.specs.States.{sizes}
@@ -7,7 +7,6 @@ use Rattle.spd_model.specs.Chances.{Sum, Reward}
 use Rattle.spd_model.proofs.CallerLemmas.Validity.{wrong_sum-placed, wide_reward-placed, wrong_sum-invalid, wide_reward-invalid}
 use Rattle.spd_nodes.specs.Shown.{Shown}
 use Rattle.spd_nodes.specs.Store.{Held, shown}
-use Rattle.spd_build.specs.declared.built.Built.{Built}
 use Rattle.spd_build.specs.declared.built.BuildFault.{BuildFault}
 use Rattle.spd_build.specs.declared.built.BuildFault.TheVariants as Build
 use Rattle.spd_build.specs.Built.{BuildCause, Builds}

@@ -34,7 +34,7 @@ module _ (way : Way) where
   too-many m over many takes = let few : HasFewStates m = subst (λ w. TakesStates w m) over takes in omega (arith, many, few)
 
   -- a process is refused in one way
-  process_once : (m : Process) (s t : Status) → RefusesProcess way m s → RefusesProcess way m t → s ≡ t
+  pub process_once : (m : Process) (s t : Status) → RefusesProcess way m s → RefusesProcess way m t → s ≡ t
   process_once m (S.TooManyStates product) (S.TooManyStates other) h k = ap (λ (n : ℕ). S.TooManyStates n) (same_Some product other (sym h.2 ∙ k.2))
   process_once m (S.TooManyStates product) (S.Sum action var state sum) h k = absurd (too-many m h.0 h.1 k.1)
   process_once m (S.TooManyStates product) (S.Range action state value) h k = absurd (too-many m h.0 h.1 k.1)
@@ -52,7 +52,7 @@ module _ (way : Way) where
   process_once m _ t h k = absurd h
 
   -- a process that is as it should be isn't refused
-  process_right : (m : Process) → IsValid m → TakesStates way m → (s : Status) → RefusesProcess way m s → ⊥
+  pub process_right : (m : Process) → IsValid m → TakesStates way m → (s : Status) → RefusesProcess way m s → ⊥
   process_right m valid takes (S.TooManyStates product) h = too-many m h.0 h.1 takes
   process_right m valid takes (S.Sum action var state sum) h = h.4 valid
   process_right m valid takes (S.Range action state value) h = h.5 valid
@@ -95,6 +95,7 @@ takes-states Tables m options h = h
 pub stage-within : (options : Options) (m : Process) → IsWithinLimits Diagrams m options → (stage : Stage) → HasMoreNodes m options stage → ⊥
 stage-within options m h Stage.Building more = omega (arith, h.0, more)
 stage-within options m h (Stage.Turn k) more = let few = h.1 k more.1 in omega (arith, few, more.2)
+stage-within options m h Stage.Check more = more
 
 -- the file of a process that is as it should be, within the limits, isn't refused, and passes no limit
 module _ (way : Way) (file bytes : List ℕ) (options : Options) (m : Process) (is : IsFileOf bytes m) (valid : IsValid m) (within : IsWithinLimits way m options) where

@@ -6,4 +6,7 @@ pub mod TableLaws
 pub mod Causes
 pub mod RunLaws
 pub mod RingLaws
+pub mod CheckCauses
+pub mod CheckLaws
+pub mod VerdictLaws
 mod Writing

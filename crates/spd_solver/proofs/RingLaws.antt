@@ -19,10 +19,11 @@ use Rattle.spd_solver.specs.declared.command.Way.TheVariants.{Diagrams}
 use Rattle.spd_solver.specs.declared.solving.Solution.{Solution}
 use Rattle.spd_solver.specs.declared.solving.Unsolved.{Unsolved}
 use Rattle.spd_solver.specs.declared.status.Stage.{Stage}
+use Rattle.spd_solver.specs.declared.status.Status.{Status}
 use Rattle.spd_solver.specs.declared.status.Status.TheVariants as S
 use Rattle.spd_solver.specs.Command.{solving_ring}
 use Rattle.spd_solver.specs.Kind.{Kind, kind_of}
-use Rattle.spd_solver.specs.Run.{Ends, Seen, IsUnwritten, Means, Completes, TellsRefusal}
+use Rattle.spd_solver.specs.Run.{Ends, Seen, ReadsCalmly, IsUnwritten, Means, Completes, TellsRefusal}
 use Rattle.spd_solver.specs.Solve.{file_limit, HasMoreNodes}
 use Rattle.spd_solver.specs.inner.Stages.{IsSolution, IsUnsolved, Answers, finished_status, unread_status, unsolved_status}
 use Rattle.spd_solver.proofs.Causes.{stage-within}
@@ -43,10 +44,14 @@ module _ (machines : ℕ) (options : Options) (before now : Seen) where
     ring_model m is = one_model (ring_text machines) m (ring_process machines) (subst (λ (file : List ℕ). IsRead file m) made is) read
 
   module _ (calm : now.inputs.faults ≡ before.inputs.faults) where
+    -- a ring reads no file
+    ring_calm : (s : Status) → ReadsCalmly (solving_ring machines options) s before now
+    ring_calm s = record { closed = λ name reads. absurd reads; others = λ name reads not. absurd reads; calm = calm }
+
     ring_limited : (stage : Stage) (limit : ℕ) → limit ≡ options.nodes → HasMoreNodes (ring_process machines) options stage → IsUnwritten before now
         → Answers (solving_ring machines options) (S.NodeLimit stage limit) before now
     ring_limited stage limit is more unwritten = record {
-      means = ((is, more), unwritten, (λ name reads. absurd reads, calm));
+      means = ((is, more), unwritten, ring_calm (S.NodeLimit stage limit));
       completes = λ within. stage-within options (ring_process machines) within stage more;
       tells = tells stage;
     }
@@ -54,6 +59,7 @@ module _ (machines : ℕ) (options : Options) (before now : Seen) where
         tells : (s : Stage) → TellsRefusal (kind_of (S.NodeLimit s limit)) (solving_ring machines options) before.inputs.holds (S.NodeLimit s limit)
         tells Stage.Building = tt
         tells (Stage.Turn k) = λ status refused. absurd refused
+        tells Stage.Check = λ status refused. absurd refused
 
     ring_unsolved_at : IsValid (ring_process machines) → (why : Unsolved) → IsUnsolved Diagrams (ring_process machines) options why → IsUnwritten before now
         → Answers (solving_ring machines options) (unsolved_status why) before now
@@ -89,7 +95,7 @@ module _ (machines : ℕ) (options : Options) (before now : Seen) where
               ring_ended,
               subst (λ (z : Solved). TookFront before.taken (summary_text machines m x.why (told z)) now.taken) is front,
               rose,
-              (λ name reads. absurd reads, calm),
+              ring_calm S.WriteFault,
             );
             completes = tt;
             tells = λ s refused. absurd refused;
@@ -104,7 +110,7 @@ module _ (machines : ℕ) (options : Options) (before now : Seen) where
                   ring_ended,
                   subst (λ (z : Solved). Took before.taken (summary_text machines m x.why (told z)) now.taken) is took,
                   quiet,
-                  (λ name reads. absurd reads, calm),
+                  ring_calm (finished_status x),
                 );
                 completes = subst (λ (k : Kind). Completes k (solving_ring machines options) before.inputs.holds) kind tt;
                 tells = subst (λ (k : Kind). TellsRefusal k (solving_ring machines options) before.inputs.holds (finished_status x)) kind (λ s refused. absurd refused);

@@ -36,12 +36,12 @@ some_longer : (n : ℕ) → (bytes : List ℕ) × (n < length bytes)
 some_longer n = (replicate (n + 1) 0, rw (length-replicate) (omega arith))
 
 -- bytes that are longer than this, and those that the place holds, where it tells them
-long_bytes : (n : ℕ) (o : Option (List ℕ)) → IfSome o (λ bytes. n < length bytes) → (bytes : List ℕ) × IfSome o (λ held. bytes ≡ held) × (n < length bytes)
+pub long_bytes : (n : ℕ) (o : Option (List ℕ)) → IfSome o (λ bytes. n < length bytes) → (bytes : List ℕ) × IfSome o (λ held. bytes ≡ held) × (n < length bytes)
 long_bytes n None long = let b = some_longer n in (b.0, tt, b.1)
 long_bytes n (Some held) long = (held, refl, long)
 
 -- what is said of the bytes that the place holds, where it tells them
-told_of : (o : Option (List ℕ)) (bytes : List ℕ) (P : List ℕ → Type 0) → IfSome o P → o ≡ Some bytes → P bytes
+pub told_of : (o : Option (List ℕ)) (bytes : List ℕ) (P : List ℕ → Type 0) → IfSome o P → o ≡ Some bytes → P bytes
 told_of None bytes P p is = absurd (none-some bytes is)
 told_of (Some held) bytes P p is = subst P (same_Some held bytes is) p
 
@@ -72,13 +72,13 @@ was_read file items bytes before now same held short closed calm =
     subst (λ (b : List ℕ). WasRead file b before now) (sym same) (record { held = held; short = short; closed = closed; calm = calm })
 
 module _ (way : Way) (file : List ℕ) (options : Options) (before now : Seen) where
-  reads_calmly : now.inputs.stage file ≡ Some Stage.Closed → now.inputs.faults ≡ before.inputs.faults → ReadsCalmly (solving way file options) before now
-  reads_calmly closed calm = (λ name is. ap now.inputs.stage is ∙ closed, calm)
+  reads_calmly : now.inputs.stage file ≡ Some Stage.Closed → now.inputs.faults ≡ before.inputs.faults → (s : Status) → ReadsCalmly (solving way file options) s before now
+  reads_calmly closed calm s = record { closed = λ name is. ap now.inputs.stage is ∙ closed; others = λ name is not. absurd (not is); calm = calm }
 
   -- ---- what is refused
 
   -- a refusal that has its cause
-  refused_answers : (s : Status) → kind_of s ≡ refusal → Refuses (solving way file options) before.inputs.holds s → IsUnwritten before now → ReadsCalmly (solving way file options) before now
+  refused_answers : (s : Status) → kind_of s ≡ refusal → Refuses (solving way file options) before.inputs.holds s → IsUnwritten before now → ReadsCalmly (solving way file options) s before now
       → Answers (solving way file options) s before now
   refused_answers s kind cause unwritten calm =
       let told = λ (bytes : List ℕ) (is : before.inputs.holds file ≡ Some bytes).
@@ -101,13 +101,14 @@ module _ (way : Way) (file : List ℕ) (options : Options) (before now : Seen) w
   limit_tells : (stage : Stage) (limit : ℕ) → Exceeds (solving way file options) before.inputs.holds (S.NodeLimit stage limit)
       → TellsRefusal limited (solving way file options) before.inputs.holds (S.NodeLimit stage limit)
   limit_tells Stage.Building limit cause = tt
+  limit_tells Stage.Check limit cause = absurd cause.2.4
   limit_tells (Stage.Turn k) limit cause = λ other refused.
       absurd (turn-right way file refused.0 options k limit
       (subst (λ (b : List ℕ). PassesLimit way b options (S.NodeLimit (Stage.Turn k) limit)) (told_of (before.inputs.holds file) refused.0 (λ (b : List ℕ). cause.0 ≡ b) cause.1 refused.1) cause.2)
       other refused.2)
 
   -- a limit that has its cause
-  limited_answers : (stage : Stage) (limit : ℕ) → Exceeds (solving way file options) before.inputs.holds (S.NodeLimit stage limit) → IsUnwritten before now → ReadsCalmly (solving way file options) before now
+  limited_answers : (stage : Stage) (limit : ℕ) → Exceeds (solving way file options) before.inputs.holds (S.NodeLimit stage limit) → IsUnwritten before now → ReadsCalmly (solving way file options) (S.NodeLimit stage limit) before now
       → Answers (solving way file options) (S.NodeLimit stage limit) before now
   limited_answers stage limit cause unwritten calm = record {
     means = (cause, unwritten, calm);
@@ -128,14 +129,14 @@ module _ (way : Way) (file : List ℕ) (options : Options) (before now : Seen) w
       record { means = (subst P (sym cause.0) (refl, cause.1, cause.2), unwritten); completes = tt; tells = tt }
   unreadable_answers (Unreadable.TooLong name) cause unwritten =
       let long = long_bytes file_limit (before.inputs.holds file) cause.2 in
-      refused_answers (S.TooLong name) refl (long.0, long.1, (cause.0, long.2)) unwritten (reads_calmly cause.3 cause.1)
+      refused_answers (S.TooLong name) refl (long.0, long.1, (cause.0, long.2)) unwritten (reads_calmly cause.3 cause.1 (S.TooLong name))
   unreadable_answers Unreadable.Memory cause unwritten = memory_answers unwritten
 
   module _ (bytes : List ℕ) (read : WasRead file bytes before now) where
     -- the file that was read is refused
     read_refused : (s : Status) → kind_of s ≡ refusal → RefusesFile way file bytes s → IsUnwritten before now → Answers (solving way file options) s before now
     read_refused s kind cause unwritten =
-        refused_answers s kind (bytes, read.held, cause) unwritten (reads_calmly read.closed read.calm)
+        refused_answers s kind (bytes, read.held, cause) unwritten (reads_calmly read.closed read.calm s)
 
     pub unread_answers : (why : Unread) → TellsFault bytes why → IsUnwritten before now → Answers (solving way file options) (unread_status why) before now
     unread_answers (Unread.Refused fault) cause unwritten = read_refused (S.Refused fault) refl (read.short, cause) unwritten
@@ -150,7 +151,7 @@ module _ (way : Way) (file : List ℕ) (options : Options) (before now : Seen) w
       unsolved_answers (Unsolved.Sum action var state sum) cause unwritten = read_refused (S.Sum action var state sum) refl (m, file_is, cause) unwritten
       unsolved_answers (Unsolved.Range action state value) cause unwritten = read_refused (S.Range action state value) refl (m, file_is, cause) unwritten
       unsolved_answers (Unsolved.NodeLimit stage limit) cause unwritten =
-          limited_answers stage limit (bytes, read.held, (m, file_is, cause.0, cause.1, cause.2)) unwritten (reads_calmly read.closed read.calm)
+          limited_answers stage limit (bytes, read.held, (m, file_is, cause.0, cause.1, cause.2)) unwritten (reads_calmly read.closed read.calm (S.NodeLimit stage limit))
       unsolved_answers Unsolved.Memory cause unwritten = memory_answers unwritten
 
       -- ---- what is solved
@@ -188,7 +189,7 @@ module _ (way : Way) (file : List ℕ) (options : Options) (before now : Seen) w
               ended,
               subst (λ (z : Solved). TookFront before.taken (text_of digest m x.why (told z)) now.taken) same front,
               rose,
-              reads_calmly read.closed read.calm,
+              reads_calmly read.closed read.calm S.WriteFault,
             );
             completes = tt;
             tells = λ s refused. absurd (not_refused s refused);
@@ -201,7 +202,7 @@ module _ (way : Way) (file : List ℕ) (options : Options) (before now : Seen) w
               let written = subst (λ (z : Solved). Took before.taken (text_of digest m x.why (told z)) now.taken) same took in
               record {
                 means = subst (λ (k : Kind). Means k (solving way file options) (finished_status x) before now) kind
-                    (text_of digest m x.why (told (arc_value x.iterate)), ended, written, calm, reads_calmly read.closed read.calm);
+                    (text_of digest m x.why (told (arc_value x.iterate)), ended, written, calm, reads_calmly read.closed read.calm (finished_status x));
                 completes = subst (λ (k : Kind). Completes k (solving way file options) before.inputs.holds) kind tt;
                 tells = subst (λ (k : Kind). TellsRefusal k (solving way file options) before.inputs.holds (finished_status x)) kind
                     (λ s refused. absurd (not_refused s refused));

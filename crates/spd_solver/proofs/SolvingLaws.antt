@@ -1,6 +1,6 @@
 -- From what value iteration on tables comes to, to the solution of a process and to why it has none.
 use Rattle.std.specs.Arc.{arc_value}
-use Rattle.std.proofs.Common.{◌≡◌, ℕ, ◌<◌, ◌≤◌, true, List, length, All, pos, sym, ap, subst, ◌∙◌}
+use Rattle.std.proofs.Common.{◌≡◌, ℕ, ◌<◌, ◌≤◌, true, List, length, All, pos, sym, subst, ◌∙◌}
 use Rattle.spd_scaled.specs.Scaled.{IsWithin}
 use Rattle.spd_model.specs.declared.Why.{Why}
 use Rattle.spd_model.specs.declared.options.Options.{Options}

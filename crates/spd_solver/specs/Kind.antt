@@ -1,6 +1,6 @@
 -- How a command can end, whatever it does.
 use Rattle.spd_solver.specs.declared.status.Status.{Status}
-use Rattle.spd_solver.specs.declared.status.Status.TheVariants.{Done, Usage, OpenFault, ReadFault, TooLong, Refused, TooManyStates, Sum, Range, TurnLimit, NodeLimit, WriteFault, Memory}
+use Rattle.spd_solver.specs.declared.status.Status.TheVariants.{Done, Usage, OpenFault, ReadFault, TooLong, Refused, OtherModel, CertRefused, TooManyStates, Sum, Range, TurnLimit, NodeLimit, No, WriteFault, Memory}
 
 pub data Kind : Type 0 where
   -- the job is finished, and its text was written whole
@@ -21,9 +21,12 @@ pub data Kind : Type 0 where
 abbrev pub kind_of : Status → Kind
 kind_of Done = whole
 kind_of (TurnLimit residual) = whole
+kind_of No = whole
 kind_of WriteFault = cut
 kind_of (TooLong name) = refusal
 kind_of (Refused fault) = refusal
+kind_of (OtherModel found wanted) = refusal
+kind_of (CertRefused fault) = refusal
 kind_of (TooManyStates product) = refusal
 kind_of (Sum action var state sum) = refusal
 kind_of (Range action state value) = refusal

@@ -5,10 +5,11 @@ use Rattle.spd_scaled.specs.Units.{units_text}
 use Rattle.spd_syntax.specs.declared.refusal.Refusal.{Refusal}
 use Rattle.spd_syntax.specs.declared.refusal.Want.{Want}
 use Rattle.spd_syntax.specs.declared.refusal.What.{What}
+use Rattle.spd_cert.specs.declared.refusal.CertRefusal.{CertRefusal}
 use Rattle.spd_solver.specs.declared.status.Stage.{Stage}
-use Rattle.spd_solver.specs.declared.status.Stage.TheVariants.{Building, Turn}
+use Rattle.spd_solver.specs.declared.status.Stage.TheVariants.{Building, Turn, Check}
 use Rattle.spd_solver.specs.declared.status.Status.{Status}
-use Rattle.spd_solver.specs.declared.status.Status.TheVariants.{Done, Usage, OpenFault, ReadFault, TooLong, Refused, TooManyStates, Sum, Range, TurnLimit, NodeLimit, WriteFault, Memory}
+use Rattle.spd_solver.specs.declared.status.Status.TheVariants.{Done, Usage, OpenFault, ReadFault, TooLong, Refused, OtherModel, CertRefused, TooManyStates, Sum, Range, TurnLimit, NodeLimit, No, WriteFault, Memory}
 
 abbrev pub status_number : Status → ℕ
 status_number Done = 0
@@ -21,9 +22,12 @@ status_number (Sum action var state sum) = 6
 status_number (Range action state value) = 7
 status_number (TurnLimit residual) = 8
 status_number (NodeLimit stage limit) = 9
+status_number (CertRefused refusal) = 10
+status_number No = 11
 status_number WriteFault = 12
 status_number (TooManyStates product) = 13
 status_number Memory = 14
+status_number (OtherModel found wanted) = 16
 
 -- LF
 abbrev pub newline : List ℕ
@@ -87,6 +91,29 @@ place_of (Refusal.Primed at) = at
 abbrev pub refusal_message : Refusal → List ℕ
 refusal_message refusal = concat (codes "refused at byte " ∷ decimal (place_of refusal) ∷ codes ": " ∷ words_of refusal ∷ newline ∷ [])
 
+-- the words of a certificate's refusal
+abbrev pub cert_words_of : CertRefusal → List ℕ
+cert_words_of (CertRefusal.BadByte at) = codes "bad byte"
+cert_words_of (CertRefusal.Expected at) = codes "expected"
+cert_words_of (CertRefusal.Unknown at) = codes "unknown name"
+cert_words_of (CertRefusal.Order at) = codes "order"
+cert_words_of (CertRefusal.Number at) = codes "number"
+cert_words_of (CertRefusal.End at) = codes "end"
+
+-- the place of a certificate's refusal, a byte of it, counted from 0
+abbrev pub cert_place_of : CertRefusal → ℕ
+cert_place_of (CertRefusal.BadByte at) = at
+cert_place_of (CertRefusal.Expected at) = at
+cert_place_of (CertRefusal.Unknown at) = at
+cert_place_of (CertRefusal.Order at) = at
+cert_place_of (CertRefusal.Number at) = at
+cert_place_of (CertRefusal.End at) = at
+
+-- the message of a certificate that is refused
+abbrev pub cert_refusal_message : CertRefusal → List ℕ
+cert_refusal_message refusal =
+    concat (codes "certificate refused at byte " ∷ decimal (cert_place_of refusal) ∷ codes ": " ∷ cert_words_of refusal ∷ newline ∷ [])
+
 -- the message of a sum that isn't one, by the texts of its parts
 abbrev pub sum_message : List ℕ → List ℕ → List ℕ → List ℕ → List ℕ
 sum_message action var state sum =
@@ -100,6 +127,7 @@ range_message action state value = concat (codes "reward of action " ∷ action 
 abbrev pub stage_words : Stage → List ℕ
 stage_words Building = codes "building"
 stage_words (Turn k) = codes "turn " ++ decimal k
+stage_words Check = codes "check"
 
 -- the message of a node limit that was passed
 abbrev pub limit_message : Stage → ℕ → List ℕ
@@ -113,10 +141,13 @@ message_of (OpenFault name) = concat (codes "cannot open " ∷ name ∷ newline 
 message_of (ReadFault name) = concat (codes "cannot read " ∷ name ∷ newline ∷ [])
 message_of (TooLong name) = concat (name ∷ codes " is too long" ∷ newline ∷ [])
 message_of (Refused refusal) = refusal_message refusal
+message_of (OtherModel found wanted) = concat (codes "certificate is of another model" ∷ newline ∷ [])
+message_of (CertRefused refusal) = cert_refusal_message refusal
 message_of (TooManyStates product) = concat (codes "too many states: " ∷ decimal product ∷ codes " or more" ∷ newline ∷ [])
 message_of (Sum action var state sum) = sum_message action var state (units_text 12 sum)
 message_of (Range action state value) = range_message action state (units_text 9 value)
 message_of (TurnLimit residual) = concat (codes "turn limit reached, residual " ∷ units_text 9 residual ∷ newline ∷ [])
 message_of (NodeLimit stage limit) = limit_message stage limit
+message_of No = concat (codes "certificate does not hold" ∷ newline ∷ [])
 message_of WriteFault = concat (codes "cannot write" ∷ newline ∷ [])
 message_of Memory = concat (codes "out of memory" ∷ newline ∷ [])

@@ -19,7 +19,7 @@ use Rattle.spd_reader.specs.Reading.{IsRead, IsRefused}
 use Rattle.spd_solver.specs.declared.command.Way.{Way}
 use Rattle.spd_solver.specs.declared.command.Way.TheVariants.{Diagrams, Tables}
 use Rattle.spd_solver.specs.declared.status.Stage.{Stage}
-use Rattle.spd_solver.specs.declared.status.Stage.TheVariants.{Building, Turn}
+use Rattle.spd_solver.specs.declared.status.Stage.TheVariants.{Building, Turn, Check}
 use Rattle.spd_solver.specs.declared.status.Status.{Status}
 use Rattle.spd_solver.specs.declared.status.Status.TheVariants.{Done, TooLong, Refused, TooManyStates, Sum as WrongSum, Range as WideReward, TurnLimit, NodeLimit}
 
@@ -114,10 +114,11 @@ pub record ComesTo (m : Process) (options : Options) (k : ℕ) : Type 0 where
   pub within : k ≤ options.turns
   pub before : (j : ℕ) → j < k → rule_at m options.span j ≡ false
 
--- A stage has more nodes than the options allow. A turn is a stage of a valid process's run alone, which comes to it.
+-- A stage of solving has more nodes than the options allow. A turn is a stage of a valid process's run alone, which comes to it.
 abbrev pub HasMoreNodes : Process → Options → Stage → Type 0
 HasMoreNodes m options Building = options.nodes < nodes_of_building m
 HasMoreNodes m options (Turn k) = IsValid m × ComesTo m options k × (options.nodes < nodes_of_turn m options.span k)
+HasMoreNodes m options Check = ⊥
 
 -- Why the node limit is told, on diagrams alone: the named stage of the file's process has more nodes than the options allow.
 abbrev pub PassesLimit : Way → List ℕ → Options → Status → Type 0

@@ -14,6 +14,15 @@ pub(crate) enum Way {
     Tables,
 }
 
+/// What a certificate is checked for.
+#[derive(Clone, Copy, Debug)]
+pub(crate) enum Purpose {
+    /// The verdict alone.
+    Judge,
+    /// The certificate in its newest form, where it holds.
+    Upgrade,
+}
+
 /// What the top call runs.
 #[derive(Clone, Copy, Debug)]
 pub(crate) enum Job<'a> {
@@ -30,6 +39,13 @@ pub(crate) enum Job<'a> {
     /// It solves the process of a ring of so many machines, 2 to 63, on decision diagrams.
     Ring {
         machines: u32,
+        options: Options,
+    },
+    /// It checks the certificate in one file of the model in another one, for this purpose.
+    Check {
+        purpose: Purpose,
+        file: &'a [u8],
+        cert: &'a [u8],
         options: Options,
     },
 }
@@ -55,6 +71,30 @@ pub(crate) fn read_job(words: &[Word]) -> Result<Job<'_>, usize>
         Ok(Command::Gen { n }) => Ok(Job::Generate { machines: n }),
         Ok(Command::Ring { n, options }) => Ok(Job::Ring {
             machines: n,
+            options,
+        }),
+        Ok(
+            Command::Check {
+                file,
+                cert,
+                options,
+            },
+        ) => Ok(Job::Check {
+            purpose: Purpose::Judge,
+            file: text_at(words, file),
+            cert: text_at(words, cert),
+            options,
+        }),
+        Ok(
+            Command::Upgrade {
+                file,
+                cert,
+                options,
+            },
+        ) => Ok(Job::Check {
+            purpose: Purpose::Upgrade,
+            file: text_at(words, file),
+            cert: text_at(words, cert),
             options,
         }),
         Ok(_) => Err(0),

@@ -13,6 +13,9 @@ use std::alloc::{AllocError, Global};
 /// The most bytes that a model file may have.
 pub const FILE_LIMIT: usize = 4_194_304;
 
+/// The most bytes that a certificate may have.
+pub const CERT_LIMIT: usize = 268_435_456;
+
 /// Why a file wasn't read.
 #[derive(Debug, Drop)]
 pub(crate) enum Unreadable {

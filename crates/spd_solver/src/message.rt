@@ -4,9 +4,10 @@ ghost use Rattle.spd_text.specs.Writing.{Wrote, Counted};
 ghost use Rattle.spd_solver.specs.Message.{status_number, message_of};
 
 use crate::pieces::write_pieces;
-use crate::refusals::{place_of, words_of};
+use crate::refusals::{cert_place_of, cert_words_of, place_of, words_of};
 use crate::status::{Stage, Status};
 use itoa::Buffer;
+use spd_cert::CertRefusal;
 use spd_edge::{Failed, Sink};
 use spd_model::Text;
 use spd_scaled::put_units;
@@ -26,9 +27,12 @@ pub fn number(status: &Status) -> u8
         Status::Range { .. } => 7,
         Status::TurnLimit { .. } => 8,
         Status::NodeLimit { .. } => 9,
+        Status::CertRefused { .. } => 10,
+        Status::No => 11,
         Status::WriteFault => 12,
         Status::TooManyStates { .. } => 13,
         Status::Memory => 14,
+        Status::OtherModel { .. } => 16,
     }
 }
 
@@ -49,6 +53,26 @@ fn write_refusal<K: Sink>(k: &mut K, refusal: Refusal) -> Result<(), Failed>
             b": ",
             words,
             name,
+            b"\n",
+        ],
+    )
+}
+
+/// Writes the message of a certificate that is refused.
+fn write_cert_refusal<K: Sink>(k: &mut K, refusal: CertRefusal) -> Result<(), Failed>
+    ensures text { Wrote (K.taken k.old) (message_of (Status.CertRefused refusal)) result (K.taken k.new) }
+    ensures count { Counted (K.faults k.old) result (K.faults k.new) }
+    ensures named { K.name k.new ≡ K.name k.old }
+{
+    let mut digits = Buffer::new();
+    let place = digits.format(cert_place_of(refusal));
+    write_pieces(
+        k,
+        &[
+            b"certificate refused at byte ",
+            place.as_bytes(),
+            b": ",
+            cert_words_of(refusal),
             b"\n",
         ],
     )
@@ -177,6 +201,10 @@ fn write_node_limit<K: Sink>(k: &mut K, stage: Stage, limit: u32) -> Result<(), 
                 ],
             )
         }
+        Stage::Check => write_pieces(
+            k,
+            &[b"node limit ", nodes.as_bytes(), b" passed in check\n"],
+        ),
     }
 }
 
@@ -197,6 +225,10 @@ pub fn write_message<K: Sink>(status: &Status, k: &mut K) -> Result<(), Failed>
         Status::ReadFault { name } => write_pieces(k, &[b"cannot read ", name.as_slice(), b"\n"]),
         Status::TooLong { name } => write_pieces(k, &[name.as_slice(), b" is too long", b"\n"]),
         Status::Refused { refusal } => write_refusal(k, *refusal),
+        Status::OtherModel { .. } => {
+            write_pieces(k, &[b"certificate is of another model", b"\n"])
+        }
+        Status::CertRefused { refusal } => write_cert_refusal(k, *refusal),
         Status::TooManyStates { product } => write_states(k, *product),
         Status::Sum {
             action,
@@ -211,6 +243,7 @@ pub fn write_message<K: Sink>(status: &Status, k: &mut K) -> Result<(), Failed>
         } => write_range(k, action, state, *value),
         Status::TurnLimit { residual } => write_turn_limit(k, *residual),
         Status::NodeLimit { stage, limit } => write_node_limit(k, *stage, *limit),
+        Status::No => write_pieces(k, &[b"certificate does not hold", b"\n"]),
         Status::WriteFault => write_pieces(k, &[b"cannot write", b"\n"]),
         Status::Memory => write_pieces(k, &[b"out of memory", b"\n"]),
     }

@@ -1,7 +1,8 @@
-//! The words for a model file that is refused.
+//! The words for a model file or a certificate that is refused.
 ghost use Rattle.std.specs.Prelude.{◌≡◌, ◌++◌};
-ghost use Rattle.spd_solver.specs.Message.{want_word, what_words, words_of, place_of};
+ghost use Rattle.spd_solver.specs.Message.{want_word, what_words, words_of, place_of, cert_words_of, cert_place_of};
 
+use spd_cert::CertRefusal;
 use spd_syntax::{Refusal, Want, What};
 
 /// The place of a refusal: a byte of the file, counted from 0, or the file's length.
@@ -75,5 +76,33 @@ pub(crate) fn words_of(refusal: Refusal) -> (&'static [u8], &'static [u8])
         Refusal::MissingBranch { .. } => (b"missing branch", b""),
         Refusal::MissingVariable { .. } => (b"missing variable", b""),
         Refusal::Primed { .. } => (b"primed name", b""),
+    }
+}
+
+/// The place of a certificate's refusal: a byte of it, counted from 0, or its length.
+pub(crate) fn cert_place_of(refusal: CertRefusal) -> usize
+    ensures { result ≡ cert_place_of refusal }
+{
+    match refusal {
+        CertRefusal::BadByte { at }
+        | CertRefusal::Expected { at }
+        | CertRefusal::Unknown { at }
+        | CertRefusal::Order { at }
+        | CertRefusal::Number { at }
+        | CertRefusal::End { at } => at,
+    }
+}
+
+/// The words for a certificate's refusal.
+pub(crate) fn cert_words_of(refusal: CertRefusal) -> &'static [u8]
+    ensures { result.now ≡ cert_words_of refusal }
+{
+    match refusal {
+        CertRefusal::BadByte { .. } => b"bad byte",
+        CertRefusal::Expected { .. } => b"expected",
+        CertRefusal::Unknown { .. } => b"unknown name",
+        CertRefusal::Order { .. } => b"order",
+        CertRefusal::Number { .. } => b"number",
+        CertRefusal::End { .. } => b"end",
     }
 }

@@ -10,6 +10,7 @@ ghost use Rattle.spd_solver.specs.Kind.{kind_of, whole};
 ghost use Rattle.spd_solver.specs.Run.{Reads, Ends, Means, Completes, TellsRefusal, seen};
 ghost use Rattle.spd_solver.specs.inner.Stages.{Answers, IsWithinItsLimits, command_for, ending, finished_status};
 
+use crate::checking::check;
 use crate::command::{Job, Way, read_job};
 use crate::file::{FILE_LIMIT, read_file};
 use crate::ring::{generate, solve_ring};
@@ -26,7 +27,7 @@ use std::alloc::Global;
 use std::thread::Threads;
 
 /// The digest by which a result names its model's file.
-fn digest_of(bytes: &[u8]) -> [u8; 32]
+pub(crate) fn digest_of(bytes: &[u8]) -> [u8; 32]
     ensures { result ≡ sha256 bytes.now }
 {
     Sha256::digest(bytes)
@@ -115,33 +116,46 @@ fn run_job<R: Threads + Sync, G: Gate + Watch, P: Place, K: Sink>(
         }
         Job::Generate { machines } => generate(machines, out),
         Job::Ring { machines, options } => solve_ring(rt, gate, alloc, machines, &options, out),
+        Job::Check {
+            purpose,
+            file,
+            cert,
+            options,
+        } => check(alloc, purpose, file, cert, &options, place, out),
     }
 }
 
 /// Runs the command that the words give on the files of a place, writes its text to an output, and says how it ended.
 ///
 /// The commands are `solve`, which goes over decision diagrams, and `plain`, which goes over tables, each with the name of a file, where `-`
-/// stands for standard input, and with options; `gen`, which writes the file of a ring of 2 to 63 machines; and `ring`, which solves that
-/// file on diagrams and writes a summary of its result. The words are those of `spd_words`. Turns on diagrams are made by as many threads
+/// stands for standard input, and with options; `gen`, which writes the file of a ring of 2 to 63 machines; `ring`, which solves that
+/// file on diagrams and writes a summary of its result; `check`, which judges the certificate in a second file of the model in the first one,
+/// and writes `yes`, or `no` and where it fails first; and `upgrade`, which does the same, but where the certificate holds writes it in its newest
+/// form in place of `yes`. The words are those of `spd_words`. Turns on diagrams are made by as many threads
 /// of `rt` as the options say, and the gate is told of each turn and of each action's backup: neither has a part in the result. A file is
 /// opened once, read to its end and closed; nothing is written before the whole result is known. What the clauses say, of every place,
 /// output and list of words:
 ///
-/// - `headline`: a command that ends with a whole text (`Done`, `TurnLimit`) wrote exactly the text that the definitions give of its file
-///   and options, which is that of a valid process, and nothing else; and the value and policy in it are optimal up to the residual over
-///   one minus the discount, for every state, course of action and number of steps. Where a turn up to the turn limit is enough, as the
-///   definitions tell after turn 0, it ends with `Done`. Of `ring` the same holds of the ring's process, and the text is the summary; of
-///   `gen` the text is the ring's file.
+/// - `headline`: a command that ends with a whole text (`Done`, `TurnLimit`, `No`) wrote exactly the text that the definitions give of its
+///   files and options, which is that of a valid process, and nothing else. Of `solve` and `plain` the value and policy in it are optimal up to
+///   the residual over one minus the discount, for every state, course of action and number of steps; and where a turn up to the turn limit is
+///   enough, as the definitions tell after turn 0, it ends with `Done`. Of `ring` the same holds of the ring's process, and the text is the summary; of
+///   `gen` the text is the ring's file. Of `check` and `upgrade` it ends with `Done` exactly where the certificate holds, and then the certificate's
+///   value and policy are near optimal in the same sense up to its residual, whoever wrote it; a digest that the certificate names is that of the
+///   model file.
 /// - `means`: what each kind of end says: where a text was written, whole or in part, and where the file is refused or passes the node
 ///   limit, the file was opened and closed again, and no read of it failed; a text that was cut off is a front of that text, and the
 ///   output's count of faults rose; what is refused has its cause in the file, at the first fault, and a ring is never refused; where the
-///   node limit is told (`NodeLimit`, by `solve` and `ring` alone), the named stage of the process has more nodes than the options allow,
+///   node limit is told (`NodeLimit`, not by `plain` and `gen`), the named stage of the process has more nodes than the options allow,
 ///   and a turn that is named is one to which the run comes; a file that couldn't be opened or read has its count of faults risen, and
-///   wasn't opened, or was; and with none of the last three anything was written.
+///   wasn't opened, or was; and with none of the last three anything was written. A certificate is refused for its own faults before those of its
+///   process, in this order: it is too long (`TooLong`), it names another model file (`OtherModel`), it is no certificate of the model
+///   (`CertRefused`); and it isn't opened where its model file is refused or can't be read.
 /// - `complete`: a lawful file of a valid process is solved, unless the outside fails or memory runs out: by `solve` where neither building
 ///   nor a turn that the run comes to has more nodes than the options allow, and by `plain` where it has at most 4,096 states; and so is a
-///   ring, where its stages have no more nodes.
-/// - `refused`: a file that is refused ends the command with that refusal, unless the outside fails, memory runs out, or building has more
+///   ring, where its stages have no more nodes. A lawful certificate of such a file, which names no other file, is judged where neither building
+///   nor the check has more nodes.
+/// - `refused`: a file or a certificate that is refused ends the command with that refusal, unless the outside fails, memory runs out, or building has more
 ///   nodes than the options allow, which may be told instead.
 /// - `usage`, `idle`: `Usage` comes exactly where the words can't be run, with the first word that can't stand; then nothing is touched.
 /// - `asked`, `closed`, `never_falls`, `holds`, `outputs`, `named`: the place is asked for no file but the command's, what was opened is

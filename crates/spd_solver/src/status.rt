@@ -5,24 +5,27 @@ ghost use Rattle.spd_solver.specs.declared.status.Status.TheVariants as Ends;
 
 use crate::file::Unreadable;
 use crate::solving::Unsolved;
+use spd_cert::CertRefusal;
 use spd_edge::Failed;
 use spd_model::Text;
 use spd_syntax::{Refusal, Unread};
 use std::alloc::AllocError;
 
-/// What of solving on decision diagrams has a node limit.
+/// What on decision diagrams has a node limit.
 #[derive(Clone, Copy, PartialEq, Eq, Debug)]
 pub enum Stage {
     /// Building the model's diagrams.
     Building,
     /// The turn of this number.
     Turn(u32),
+    /// Checking a certificate.
+    Check,
 }
 
 /// How a command ended.
 #[derive(Debug, Drop)]
 pub enum Status {
-    /// The result was written, and its turn meets the stop rule.
+    /// The job is done, and its text was written: the turn of a result meets the stop rule, and a certificate holds.
     Done,
     /// The words aren't a command: `word` is the number of the first one that can't stand where it does, counted from 0.
     Usage {
@@ -36,13 +39,22 @@ pub enum Status {
     ReadFault {
         name: Text,
     },
-    /// The file of this name has more than 4,194,304 bytes.
+    /// The file of this name has more bytes than it may have: 4,194,304 of a model, and 268,435,456 of a certificate.
     TooLong {
         name: Text,
     },
     /// The file isn't a model file, by its first fault.
     Refused {
         refusal: Refusal,
+    },
+    /// The certificate names the model file of the SHA-256 `found`, and the SHA-256 of the model file that was given is `wanted`.
+    OtherModel {
+        found: [u8; 32],
+        wanted: [u8; 32],
+    },
+    /// The file isn't a certificate of the model, by its first fault.
+    CertRefused {
+        refusal: CertRefusal,
     },
     /// The process, which was to be solved over tables, has more states than they may have: `product` is the first product of the leading
     /// variables' numbers of values that passes 4,096.
@@ -71,6 +83,8 @@ pub enum Status {
         stage: Stage,
         limit: u32,
     },
+    /// The certificate doesn't hold. Where it fails first was written.
+    No,
     /// The result couldn't be written whole.
     WriteFault,
     /// Memory was wanted and not found.

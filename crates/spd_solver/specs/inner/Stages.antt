@@ -1,5 +1,5 @@
 -- The stages of a command: what each gives, why it fails, and the status of each failure.
-use Rattle.std.specs.Prelude.{ℕ, zero, suc, ◌<◌, ◌≤◌, ◌≡◌, true, List, [], ◌++◌, length, codes, ℤ, Option, Some, IfSome, Result, Ok, Err}
+use Rattle.std.specs.Prelude.{ℕ, zero, suc, ◌<◌, ◌≤◌, ◌≡◌, ◌≢◌, true, List, [], ◌++◌, length, codes, ℤ, Option, Some, IfSome, Result, Ok, Err}
 use Rattle.std.specs.Arc.{arc_value}
 use Rattle.spd_edge.specs.Counts.{Rose}
 use Rattle.spd_edge.specs.Direction.{Direction}
@@ -33,7 +33,7 @@ use Rattle.spd_solver.specs.declared.file.Unreadable.{Unreadable}
 use Rattle.spd_syntax.specs.declared.unread.Unread.{Unread}
 use Rattle.spd_solver.specs.declared.solving.Unsolved.{Unsolved}
 use Rattle.spd_solver.specs.declared.status.Status.{Status}
-use Rattle.spd_solver.specs.Command.{Command, solving, generating, solving_ring, AskFor, IsUsage}
+use Rattle.spd_solver.specs.Command.{Command, solving, generating, solving_ring, checking, AskFor, IsUsage}
 use Rattle.spd_solver.specs.Run.{Seen, Means, Completes, TellsRefusal}
 use Rattle.spd_solver.specs.Kind.{kind_of}
 use Rattle.spd_solver.specs.Solve.{state_text, value, TakesStates, RefusesProcess, HasMoreNodes}
@@ -45,6 +45,7 @@ abbrev pub command_for : Job → Command
 command_for (Job.Solve way file options) = solving way file.now options
 command_for (Job.Generate machines) = generating machines
 command_for (Job.Ring machines options) = solving_ring machines options
+command_for (Job.Check purpose file cert options) = checking purpose file.now cert.now options
 
 -- the words ask for this command, and for nothing else
 pub record Asks (words : List (List ℕ)) (command : Command) : Type 0 where
@@ -52,11 +53,12 @@ pub record Asks (words : List (List ℕ)) (command : Command) : Type 0 where
   pub once : (other : Command) → AskFor words other → other ≡ command
   pub right : (word : ℕ) → IsUsage words word → ⊥
 
--- the numbers of a job lie within their limits
+-- the numbers of a job lie within their limits, and its two files have two names
 abbrev pub IsWithinItsLimits : Job → Type 0
 IsWithinItsLimits (Job.Solve way file options) = AreOptions options
 IsWithinItsLimits (Job.Generate machines) = (2 ≤ machines) × (machines ≤ 63)
 IsWithinItsLimits (Job.Ring machines options) = (2 ≤ machines) × (machines ≤ 63) × AreOptions options
+IsWithinItsLimits (Job.Check purpose file cert options) = AreOptions options × (file.now ≢ cert.now)
 
 -- the words can't be run, from the word of this number on
 pub record AskWrongly (words : List (List ℕ)) (word : ℕ) : Type 0 where
