@@ -1,3 +1,4 @@
+pub mod Digests
 pub mod Lines
 pub mod Places
 pub mod Shown

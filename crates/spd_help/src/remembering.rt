@@ -31,12 +31,22 @@ impl<S: Source> Source for RememberingIn<S> {
     }
 }
 
-/// A place that is in all things like another one, and remembers the bytes of the input that was closed last, where it is to.
+/// A place that is in all things like another one, and remembers the bytes of the first two inputs that are closed, where it is to.
 #[derive(Drop)]
 pub struct Remembering<P> {
     place: P,
     wanted: bool,
-    bytes: Vec<u8>,
+    alloc: Global,
+    first: Option<Vec<u8>>,
+    second: Option<Vec<u8>>,
+}
+
+/// The bytes of an input, where there is one.
+fn bytes_of(input: &Option<Vec<u8>>) -> &[u8] {
+    match input {
+        Some(bytes) => bytes,
+        None => &[],
+    }
 }
 
 impl<P: Place> Remembering<P> {
@@ -48,13 +58,20 @@ impl<P: Place> Remembering<P> {
         Remembering {
             place,
             wanted,
-            bytes: Vec::new(alloc),
+            alloc,
+            first: None,
+            second: None,
         }
     }
 
-    /// The bytes of the input that was closed last: none where they weren't wanted, or where there was no memory for them.
-    pub fn bytes(&self) -> &[u8] {
-        &self.bytes
+    /// The bytes of the input that was closed first: none where they weren't wanted, or where there was no memory for them.
+    pub fn first(&self) -> &[u8] {
+        bytes_of(&self.first)
+    }
+
+    /// The bytes of the input that was closed next, in the same way.
+    pub fn second(&self) -> &[u8] {
+        bytes_of(&self.second)
     }
 }
 
@@ -72,7 +89,7 @@ impl<P: Place> Place for Remembering<P> {
         Ok(RememberingIn {
             source,
             wanted: self.wanted,
-            bytes: Vec::new(*self.bytes.allocator()),
+            bytes: Vec::new(self.alloc),
         })
     }
 
@@ -87,7 +104,11 @@ impl<P: Place> Place for Remembering<P> {
             bytes,
         } = input;
         self.place.close_in(name, source);
-        self.bytes = bytes;
+        if self.first.is_none() {
+            self.first = Some(bytes);
+        } else if self.second.is_none() {
+            self.second = Some(bytes);
+        }
     }
 
     fn close_out(&mut self, name: &[u8], output: Self::Out) {

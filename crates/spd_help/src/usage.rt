@@ -7,17 +7,12 @@ use spd_model::Word;
 use std::alloc::AllocError;
 
 /// The commands that can be run.
-const COMMANDS: [&[u8]; 6] = [b"solve", b"plain", b"gen", b"ring", b"help", b"version"];
+const COMMANDS: [&[u8]; 8] = [
+    b"solve", b"plain", b"check", b"upgrade", b"gen", b"ring", b"help", b"version",
+];
 
 /// The commands that are planned.
-const PLANNED: [&[u8]; 6] = [
-    b"ask",
-    b"check",
-    b"upgrade",
-    b"horizon",
-    b"evaluate",
-    b"bounded",
-];
+const PLANNED: [&[u8]; 4] = [b"ask", b"horizon", b"evaluate", b"bounded"];
 
 /// The options.
 const OPTIONS: [&[u8]; 5] = [b"--turns", b"--span", b"--workers", b"--nodes", b"--memo"];
@@ -84,14 +79,35 @@ fn is_of_ring(command: &[u8]) -> bool {
     command == b"gen".as_slice() || command == b"ring".as_slice()
 }
 
+/// Whether a command's operands are a model file and a certificate.
+fn is_of_cert(command: &[u8]) -> bool {
+    command == b"check".as_slice() || command == b"upgrade".as_slice()
+}
+
 /// Whether a command takes an option.
 fn takes(command: &[u8], option: &[u8]) -> bool {
     if command == b"gen".as_slice() {
         return false;
     }
+    if is_of_cert(command) {
+        return option == b"--nodes".as_slice() || option == b"--memo".as_slice();
+    }
     command != b"plain".as_slice()
         || option == b"--turns".as_slice()
         || option == b"--span".as_slice()
+}
+
+/// The number of the first operand of a command, before the word of a number.
+fn first_operand(words: &[Word], number: usize) -> Option<usize> {
+    for before in 1..number.min(words.len()).max(1) {
+        let word = text(words, before);
+        match role_of(words, before) {
+            Role::Operand => return Some(before),
+            Role::Any if !is_option(word) && word != b"--".as_slice() => return Some(before),
+            _ => {}
+        }
+    }
+    None
 }
 
 /// The name of an option, without a value in the same word.
@@ -193,6 +209,22 @@ fn tell_value(screen: &mut Screen, option: &[u8], word: Option<&[u8]>) -> Result
     screen.end_line()
 }
 
+/// Tells of an operand that can't stand.
+fn tell_operand(screen: &mut Screen, words: &[Word], number: usize) -> Result<(), AllocError> {
+    let word = text(words, number);
+    if word.is_empty() {
+        return screen.line(&[b"  The name of a file isn't empty."]);
+    }
+    match first_operand(words, number) {
+        Some(first) if is_of_cert(text(words, 0)) && text(words, first) == word => screen.line(&[
+            b"  `",
+            word,
+            b"` stands twice: the model file and the certificate are two files.",
+        ]),
+        _ => screen.line(&[b"  `", word, b"` is one operand too many."]),
+    }
+}
+
 /// Tells of a word behind the command that can't stand.
 fn tell_word(screen: &mut Screen, words: &[Word], number: usize) -> Result<(), AllocError> {
     let word = text(words, number);
@@ -204,8 +236,7 @@ fn tell_word(screen: &mut Screen, words: &[Word], number: usize) -> Result<(), A
             word,
             b"` can't stand here: the one operand is a number of machines from 2 to 63.",
         ]),
-        _ if word.is_empty() => screen.line(&[b"  The name of a file isn't empty."]),
-        _ => screen.line(&[b"  `", word, b"` is one operand too many."]),
+        _ => tell_operand(screen, words, number),
     }
 }
 
@@ -216,6 +247,10 @@ fn tell_missing(screen: &mut Screen, words: &[Word]) -> Result<(), AllocError> {
         _ if is_of_ring(text(words, 0)) => {
             screen.line(&[b"  N is missing: a number of machines from 2 to 63."])
         }
+        _ if is_of_cert(text(words, 0)) && first_operand(words, words.len()).is_some() =>
+            screen.line(&[
+                b"  A CERT is missing: the name of a certificate, or `-` for standard input.",
+            ]),
         _ => screen.line(&[
             b"  A FILE is missing: the name of a model file, or `-` for standard input.",
         ]),

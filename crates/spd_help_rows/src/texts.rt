@@ -20,6 +20,15 @@ const GOAL: Goal = Goal {
     tolerance: 100_000_000,
 };
 
+/// Words from their texts.
+fn words_of(rt: &HostRuntime, texts: &[&str]) -> Result<Vec<Word>, Fail> {
+    let mut words: Vec<Word> = Vec::new(rt.alloc());
+    for text in texts {
+        words.push(Items::from_slice(rt.alloc(), text.as_bytes())?)?;
+    }
+    Ok(words)
+}
+
 #[test]
 fn a_refused_file(rt: HostRuntime) -> Result<(), Fail> {
     let mut screen = Screen::new(rt.alloc());
@@ -57,14 +66,47 @@ fn a_wrong_sum(rt: HostRuntime) -> Result<(), Fail> {
 
 #[test]
 fn wrong_words(rt: HostRuntime) -> Result<(), Fail> {
-    let mut words: Vec<Word> = Vec::new(rt.alloc());
-    words.push(Items::from_slice(rt.alloc(), b"sovle")?)?;
     let mut screen = Screen::new(rt.alloc());
-    tell_usage(&mut screen, &words, 0)?;
+    tell_usage(&mut screen, &words_of(&rt, &["sovle"])?, 0)?;
     tell_system(&mut screen, ErrorKind::NotFound)?;
     let wanted: &[u8] =
         b"  `sovle` is no command. Is `solve` meant?\n  To see what can stand, try 'spudd --help'.\n  There is no such file or folder.\n";
     assert_eq!(rt; screen.as_slice(), wanted);
+    Ok(())
+}
+
+#[test]
+fn wrong_words_of_a_check(rt: HostRuntime) -> Result<(), Fail> {
+    let cases: [(&[&str], usize, &[u8]); 4] = [
+        (
+            &["check", "m"],
+            2,
+            b"  A CERT is missing: the name of a certificate, or `-` for standard input.\n",
+        ),
+        (
+            &["check"],
+            1,
+            b"  A FILE is missing: the name of a model file, or `-` for standard input.\n",
+        ),
+        (
+            &["upgrade", "--nodes", "50", "m", "m"],
+            4,
+            b"  `m` stands twice: the model file and the certificate are two files.\n",
+        ),
+        (
+            &["check", "m", "c", "--turns", "5"],
+            3,
+            b"  `--turns` is no option of `check`.\n",
+        ),
+    ];
+    for (texts, number, wanted) in cases {
+        let mut screen = Screen::new(rt.alloc());
+        tell_usage(&mut screen, &words_of(&rt, texts)?, number)?;
+        let told = screen
+            .as_slice()
+            .strip_suffix(b"  To see what can stand, try 'spudd --help'.\n");
+        assert_eq!(rt; told, Some(wanted));
+    }
     Ok(())
 }
 

@@ -21,36 +21,39 @@ use terminal::{Told, tell};
 const HELP: &str = "\
 spudd: near-optimal values and policies of factored Markov decision processes
 
-    spudd solve FILE    solves the model in FILE on decision diagrams, and
-                        prints the result; `-` is standard input
-    spudd plain FILE    the same over tables of up to 4096 states
-    spudd gen N         writes the file of a ring of N machines: 2 to 63
-    spudd ring N        solves that file on decision diagrams, and prints a
-                        summary of the result
-    spudd help          prints this page, as -h and --help do
-    spudd version       prints the version, as -V and --version do
+    spudd solve FILE         solves the model in FILE on decision diagrams, and
+                             prints the result; `-` is standard input
+    spudd plain FILE         the same over tables of up to 4096 states
+    spudd check FILE CERT    prints `yes` where the result CERT is right for the
+                             model in FILE, or `no` and where it fails first
+    spudd upgrade FILE CERT  the same; prints CERT in its newest form for `yes`
+    spudd gen N              writes the file of a ring of N machines: 2 to 63
+    spudd ring N             solves that file, and prints a summary
+    spudd help, -h, --help   prints this page; so -V, --version, the version
 
 Options, as --turns 20 or --turns=20. Behind the word -- no word is an option.
-`plain` takes --turns and --span alone, `gen` takes none.
+`plain` takes --turns and --span alone, `check` and `upgrade` take --nodes and
+--memo, `gen` takes none.
 
     --turns N      the last turn that a run may reach: 0 to 1000000, else 10000
     --span X       values whose range is at most this wide become one:
                    a decimal from 0 to 10^21, else 0
     --workers N    how many threads compute a turn: 1 to 64, else 1
-    --nodes N      how many nodes building or a turn may have:
+    --nodes N      how many nodes building, a turn or a check may have:
                    16 to 8388608, else 262144
     --memo N       how many answers a table keeps: 1 to 8388608, else 65536
 
 A result depends on --turns and --span alone.
 
 Exit status:
-    0  done                               8  turn limit reached
+    0  done; CERT holds                   8  turn limit reached
     2  wrong words                        9  node limit passed
-    3  FILE can't be opened or read      12  the result can't be written
-    4  FILE is too long                  13  too many states
-    5  FILE is refused                   14  out of memory
-    6  probabilities don't sum to one    70  the program isn't built
-    7  a reward is too large
+    3  a file can't be opened or read    10  CERT is refused
+    4  a file is too long                11  CERT doesn't hold
+    5  FILE is refused                   12  the result can't be written
+    6  probabilities don't sum to one    13  too many states
+    7  a reward is too large             14  out of memory
+   16  CERT is of another model file     70  the program isn't built
 
 docs/FORMAT.md explains the model file and the result; examples/ has models.
 ";
@@ -136,8 +139,12 @@ fn run<R: Threads + Sync>(threads: &R, rt: HostRuntime, words: &[Word]) -> Statu
         &mut output,
     );
     progress.clear();
-    let bytes = place.bytes();
-    answer(rt, terminal, &status, Told { words, bytes });
+    let told = Told {
+        words,
+        file: place.first(),
+        cert: place.second(),
+    };
+    answer(rt, terminal, &status, told);
     status
 }
 
@@ -145,7 +152,8 @@ fn run<R: Threads + Sync>(threads: &R, rt: HostRuntime, words: &[Word]) -> Statu
 fn ended(rt: HostRuntime, status: Status) -> Status {
     let told = Told {
         words: &[],
-        bytes: &[],
+        file: &[],
+        cert: &[],
     };
     answer(rt, false, &status, told);
     status

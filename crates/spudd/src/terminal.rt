@@ -1,7 +1,8 @@
 //! What a person at a terminal is told behind the message of a status.
 
 use spd_help::{
-    Goal, Screen, tell_node_limit, tell_refusal, tell_sum, tell_system, tell_turn_limit, tell_usage,
+    Goal, Screen, tell_cert_refusal, tell_no, tell_node_limit, tell_other_model, tell_refusal,
+    tell_sum, tell_system, tell_turn_limit, tell_usage,
 };
 use spd_model::{Model, Word};
 use spd_reader::read_model;
@@ -22,28 +23,43 @@ const RING: Goal = Goal {
 pub(crate) struct Told<'a> {
     /// The words of the command.
     pub words: &'a [Word],
-    /// The bytes of its file, or none where they aren't known.
-    pub bytes: &'a [u8],
+    /// The bytes of its model file, or none where they aren't known.
+    pub file: &'a [u8],
+    /// Those of its certificate.
+    pub cert: &'a [u8],
 }
 
 impl Told<'_> {
-    /// The name of the command's file, or none of a ring, and the turn limit.
-    fn file(&self) -> Option<(&[u8], u32)> {
+    /// The name of the command's model file, or none of a ring, and the turn limit.
+    fn named(&self) -> Option<(&[u8], u32)> {
         match read_words(self.words) {
             Ok(Command::Ring { options, .. }) => Some((&[], options.turns)),
-            Ok(Command::Solve { file, options } | Command::Plain { file, options }) => {
-                Some((text_at(self.words, file), options.turns))
-            }
+            Ok(
+                Command::Solve { file, options }
+                | Command::Plain { file, options }
+                | Command::Check { file, options, .. }
+                | Command::Upgrade { file, options, .. },
+            ) => Some((text_at(self.words, file), options.turns)),
             _ => None,
+        }
+    }
+
+    /// The name of the command's certificate, or none.
+    fn cert_name(&self) -> &[u8] {
+        match read_words(self.words) {
+            Ok(Command::Check { cert, .. } | Command::Upgrade { cert, .. }) => {
+                text_at(self.words, cert)
+            }
+            _ => &[],
         }
     }
 
     /// The model of the command's file.
     fn model(&self, alloc: Global) -> Option<Model> {
-        if self.bytes.len() > FILE_LIMIT {
+        if self.file.len() > FILE_LIMIT {
             return None;
         }
-        read_model(alloc, self.bytes).ok()
+        read_model(alloc, self.file).ok()
     }
 
     /// What the model says of when its runs end.
@@ -95,6 +111,41 @@ fn shown_name(name: &[u8]) -> &[u8] {
     }
 }
 
+/// How long a file may be of which a person is told that it is too long.
+fn length_sentence(name: &[u8], cert: &[u8]) -> &'static [u8] {
+    if name == cert {
+        b"  A certificate has at most 268435456 bytes."
+    } else {
+        b"  A model file has at most 4194304 bytes."
+    }
+}
+
+/// Adds what to try where the run met its turn limit with this residual.
+fn tell_turns(
+    alloc: Global,
+    screen: &mut Screen,
+    told: Told<'_>,
+    turns: u32,
+    residual: i128,
+) -> Result<(), AllocError> {
+    match told.goal(alloc) {
+        Some(goal) => tell_turn_limit(screen, goal, turns, residual),
+        None => Ok(()),
+    }
+}
+
+/// Adds what to try where this stage passed the node limit.
+fn tell_nodes(
+    alloc: Global,
+    screen: &mut Screen,
+    told: Told<'_>,
+    stage: Stage,
+    limit: u32,
+) -> Result<(), AllocError> {
+    let is_turn = matches!(stage, Stage::Turn(_));
+    tell_node_limit(screen, told.goal(alloc), is_turn, limit)
+}
+
 /// Adds what a person is told of a status.
 pub(crate) fn tell<R: Files>(
     rt: &R,
@@ -103,14 +154,20 @@ pub(crate) fn tell<R: Files>(
     status: &Status,
     told: Told<'_>,
 ) -> Result<(), AllocError> {
-    let (file, turns) = told.file().unwrap_or((b"", 0));
+    let (file, turns) = told.named().unwrap_or((b"", 0));
     let name = shown_name(file);
+    let cert = told.cert_name();
     match status {
         Status::Usage { word } => tell_usage(screen, told.words, *word),
         Status::OpenFault { name } | Status::ReadFault { name } => {
             tell_fault(rt, screen, name.as_slice())
         }
-        Status::Refused { refusal } => tell_refusal(alloc, screen, name, told.bytes, *refusal),
+        Status::Refused { refusal } => tell_refusal(alloc, screen, name, told.file, *refusal),
+        Status::CertRefused { refusal } => {
+            tell_cert_refusal(screen, shown_name(cert), told.cert, *refusal)
+        }
+        Status::OtherModel { found, wanted } => tell_other_model(screen, name, found, wanted),
+        Status::No => tell_no(screen),
         Status::Sum {
             action,
             var,
@@ -121,21 +178,15 @@ pub(crate) fn tell<R: Files>(
                 alloc,
                 screen,
                 name,
-                told.bytes,
+                told.file,
                 action.as_slice(),
                 var.as_slice(),
                 *sum,
             )
         }
-        Status::TurnLimit { residual } => match told.goal(alloc) {
-            Some(goal) => tell_turn_limit(screen, goal, turns, *residual),
-            None => Ok(()),
-        },
-        Status::NodeLimit { stage, limit } => {
-            let is_turn = matches!(stage, Stage::Turn(_));
-            tell_node_limit(screen, told.goal(alloc), is_turn, *limit)
-        }
-        Status::TooLong { .. } => screen.line(&[b"  A model file has at most 4194304 bytes."]),
+        Status::TurnLimit { residual } => tell_turns(alloc, screen, told, turns, *residual),
+        Status::NodeLimit { stage, limit } => tell_nodes(alloc, screen, told, *stage, *limit),
+        Status::TooLong { name } => screen.line(&[length_sentence(name.as_slice(), cert)]),
         Status::TooManyStates { .. } => {
             screen.line(&[b"  `plain` takes at most 4096 states, `solve` any number of them."])
         }
