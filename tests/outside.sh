@@ -110,14 +110,14 @@ for file in "$root"/tests/small/*.spudd; do
     done
 done
 
-# Refused files, prefixes, examples, command words, both ways to solve, and rings, which scripts of their own compare with references.
+# Refused files, prefixes, examples, command words, both ways to solve, rings, and certificates, which scripts of their own compare with references.
 if command -v python3 >/dev/null; then
-    for script in refused words diagrams ring mistakes; do
+    for script in refused words diagrams ring check mistakes; do
         python3 "$root/tests/$script/run.py" "$root/crates/spudd/out/spudd" || failed=1
     done
     python3 "$root/tests/show/run.py" || failed=1
 else
-    echo "skipped tests/refused, tests/words, tests/diagrams, tests/ring, tests/mistakes and tests/show: there is no python3"
+    echo "skipped tests/refused, tests/words, tests/diagrams, tests/ring, tests/check, tests/mistakes and tests/show: there is no python3"
 fi
 
 # The script at the root, with a stand-in for rt.

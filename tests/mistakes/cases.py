@@ -1,8 +1,10 @@
-"""Mistakes that a new user makes in a model file, with what the program says of each.
+"""Mistakes that a new user makes in a model file or in a certificate, with what the program says of each.
 
-`edits()` gives for each mistake its name, the file's bytes, the byte at which it is refused, the message through a pipe, the exit status and some
-texts that a terminal shows besides. Most are edits of one lawful file: a text that stands there once, and what stands in its place. A `@` in the
-new text marks the byte of the message and isn't part of the file."""
+`edits()` gives for each mistake in a model file its name, the file's bytes, the byte at which it is refused, the message through a pipe, the exit
+status and some texts that a terminal shows besides. Most are edits of one lawful file: a text that stands there once, and what stands in its place.
+A `@` in the new text marks the byte of the message and isn't part of the file. `cert_edits()` gives the same for a certificate of that file, and what
+`check` writes to standard output."""
+import hashlib
 
 MACHINE = """(variables (machine up down))
 action wait
@@ -24,6 +26,24 @@ endaction
 reward (die (one (1)) (two (0)) (three (0)))
 discount 0.5
 tolerance 0.1
+"""
+
+# The certificate that docs/FORMAT.md makes by hand. It holds.
+CERT = """spd result 1
+status limit
+turn 0
+residual 0.46
+at machine=down above repair
+error 4.6
+value 3
+0 leaf 90
+1 leaf 78
+2 branch machine 0 1
+policy 3
+0 leaf wait
+1 leaf repair
+2 branch machine 0 1
+end
 """
 
 REPAIR = "machine (machine' (up (0.95)) (down (0.05)))\ncost (2)\n"
@@ -106,10 +126,104 @@ LAWFUL = [
     ("ends of lines as elsewhere", "cost (2)\n", "cost (2)\r\n"),
 ]
 
+# What is told of a word of a certificate, of its order and of its end.
+MISSING = "A word is missing here"
+NO_NAME = "no variable, value or action of this name"
+NODE = "Here stands the next node"
+ORDER = "A branch goes on with nodes above it in the list"
+CUT = "The certificate is cut off here: its last line is `end`, with an LF."
+ASCII = "A certificate is printable ASCII"
+DECIMAL = "with a decimal from 0 to 10^21 of at most 9 places"
+VALUES = "value 3\n0 leaf 90\n1 leaf 78\n2 branch machine 0 1\n"
+LAST = "1 leaf repair\n2 branch machine 0 1\n"
+
+# The name, the old text of the certificate, the new one, the words of the refusal, and what a terminal shows.
+CERTS = [
+    ("a tab", "status limit", "status@\tlimit", "bad byte", [ASCII, "no tab"]),
+    ("a tab behind a line", "turn 0\n", "turn 0@\t\n", "bad byte", [ASCII]),
+    ("a CR", "end\n", "end@\r\n", "bad byte", [ASCII, "no CR"]),
+    ("an umlaut", "status limit", "stat@\u00fcs limit", "bad byte", [ASCII]),
+    ("a typographic minus", "1 leaf 78", "1 leaf @\u221278", "bad byte", [ASCII]),
+    ("a tab behind another mistake", "status limit\nturn 0", "status maybe\nturn@\t0", "bad byte", [ASCII]),
+    ("cut off in a line", LAST + "end\n", "1 leaf rep@", "end", [CUT]),
+    ("cut off behind a line", LAST + "end\n", "1 leaf repair\n@", "end", [CUT]),
+    ("cut off behind the value", "policy 3\n0 leaf wait\n" + LAST + "end\n", "@", "end", [CUT]),
+    ("an end without an LF", LAST + "end\n", LAST + "end@", "end", [CUT]),
+    ("a misspelt variable", "1 leaf 78\n2 branch machine", "1 leaf 78\n2 branch @machin", "unknown name", [NO_NAME]),
+    ("a misspelt variable in the place", "at machine=down", "at @machin=down", "unknown name", [NO_NAME, "in their order"]),
+    ("a misspelt value", "machine=down", "@machine=broken", "unknown name", [NO_NAME]),
+    ("a misspelt action", "0 leaf wait", "0 leaf @wiat", "unknown name", [NO_NAME]),
+    ("a misspelt action in the place", "above repair", "above @Repair", "unknown name", [NO_NAME]),
+    ("an action's number", "0 leaf wait", "0 leaf @0", "unknown name", [NO_NAME]),
+    ("a place without `=`", "machine=down", "@machine down", "expected", ["Here stands `at`", "`variable=value`"]),
+    ("a side that is none", "above repair", "@over repair", "expected", ["`above` or `below`"]),
+    ("a residual with a comma", "residual 0.46", "residual @0,46", "number", ["Here stands `residual`", DECIMAL]),
+    ("a residual of ten places", "residual 0.46", "residual @0.4600000001", "number", ["Here stands `residual`", DECIMAL]),
+    ("a residual that is too large", "residual 0.46", "residual @1e22", "number", ["Here stands `residual`", DECIMAL]),
+    ("a residual below 0", "residual 0.46", "residual @-0.46", "number", ["Here stands `residual`", DECIMAL]),
+    ("a residual that is no number", "residual 0.46", "residual @inf", "number", ["Here stands `residual`", DECIMAL]),
+    ("an error as a percentage", "error 4.6", "error @5%", "number", ["Here stands `error`", DECIMAL]),
+    ("a turn with a point", "turn 0", "turn @0.0", "number", ["Here stands `turn`", "0 to 1000000"]),
+    ("a leading zero", "turn 0", "turn @00", "number", ["Here stands `turn`"]),
+    ("a leaf that is too large", "0 leaf 90", "0 leaf @1e16", "number", ["A leaf of the value is a decimal", "up to 10^15"]),
+    ("a leaf that is a fraction", "0 leaf 90", "0 leaf @269/3", "number", ["A leaf of the value is a decimal"]),
+    ("a leaf without a number", "0 leaf 90", "0 leaf@", "expected", [MISSING]),
+    ("a kid below its branch", VALUES, "value 3\n0 branch machine @1 2\n1 leaf 90\n2 leaf 78\n", "order", [ORDER]),
+    ("a kid that is its own branch", "1 leaf 78\n2 branch machine 0 1", "1 leaf 78\n2 branch machine 0 @2", "order", [ORDER]),
+    ("a kid that branches on the same variable", VALUES, "value 4\n0 leaf 90\n1 leaf 78\n2 branch machine 0 1\n3 branch machine @2 1\n", "order", [ORDER]),
+    ("a kid that is missing", "1 leaf 78\n2 branch machine 0 1", "1 leaf 78\n2 branch machine 0@", "expected", [MISSING]),
+    ("a kid too many", "1 leaf 78\n2 branch machine 0 1", "1 leaf 78\n2 branch machine 0 1 @1", "expected", [NODE]),
+    ("a kid's name", "1 leaf 78\n2 branch machine 0 1", "1 leaf 78\n2 branch machine @up 1", "number", ["the number of a node is digits"]),
+    ("nodes from 1", VALUES, "value 3\n@1 leaf 90\n2 leaf 78\n3 branch machine 1 2\n", "expected", [NODE]),
+    ("a count that is too small", VALUES + "policy", "value 2\n0 leaf 90\n1 leaf 78\n@2 branch machine 0 1\npolicy", "expected", ["`policy` with the number of nodes"]),
+    ("a count that is too large", VALUES + "policy", VALUES.replace("3", "4") + "@policy", "expected", [NODE]),
+    ("no count", "value 3", "value@", "expected", [MISSING]),
+    ("no nodes", VALUES, "value @0\n", "number", ["Here stands `value`", "1 to 999999999"]),
+    ("no policy", "policy 3\n0 leaf wait\n" + LAST, "@", "expected", ["`policy` with the number of nodes", "or `end`"]),
+    ("another status", "status limit", "status @maybe", "expected", ["Here stands `status done` or `status limit`."]),
+    ("a line that is missing", "turn 0\n", "@", "expected", ["Here stands `turn`"]),
+    ("two spaces", "status limit", "status @ limit", "expected", [MISSING]),
+    ("a space behind a line", "turn 0\n", "turn 0 @\n", "expected", [MISSING]),
+    ("a blank at a line's beginning", "turn 0", "@ turn 0", "expected", [MISSING]),
+    ("an empty line", "turn 0", "@\nturn 0", "expected", [MISSING]),
+    ("a word too many", "residual 0.46", "residual 0.46 @exact", "expected", ["Here stands `residual`"]),
+    ("a comment", "spd result 1", "@// by hand\nspd result 1", "expected", ["A certificate begins with the line `spd result 1` or `spd result 2`."]),
+    ("a comment at the end", "end\n", "end\n@// by hand\n", "end", ["A certificate ends with the line `end`."]),
+    ("another version", "result 1", "result @3", "expected", ["A certificate begins with the line"]),
+    ("no file in version 2", "result 1\n", "result 2\n@", "expected", ["`model` with the SHA-256 of the model file"]),
+    ("a short SHA-256", "result 1\n", "result 2\nmodel @f8db4172\n", "expected", ["64 digits"]),
+]
+
+# A certificate that doesn't hold: the name, the old text, the new one, and the line on standard output.
+NO = [
+    ("a residual that is too small", "residual 0.46", "residual 0.459999999", "no machine=down above repair"),
+    ("a value that is too large", "0 leaf 90", "0 leaf 95", "no machine=up below wait"),
+    ("a value that is too small", "0 leaf 90", "0 leaf 80", "no machine=up above wait"),
+    ("the worse action", "1 leaf repair", "1 leaf wait", "no machine=down below wait"),
+]
+
+# What looks like a mistake in a certificate and is none.
+HOLDS = [
+    ("a residual with an exponent", "residual 0.46", "residual 1e3"),
+    ("another turn", "turn 0", "turn 1000000"),
+    ("an error that isn't computed", "error 4.6", "error 0"),
+    ("another place", "at machine=down above repair", "at machine=up below wait"),
+    ("equal kids", "1 leaf 78\n2 branch machine 0 1", "1 leaf 78\n2 branch machine 1 1\n3 branch machine 0 1"),
+    ("a node that isn't reached", "0 leaf wait\n" + LAST, "0 leaf wait\n1 leaf repair\n2 branch machine 1 0\n3 branch machine 0 1\n"),
+]
+
 
 def changed(old, new, text=MACHINE):
     assert text.count(old) == 1, old
     return text.replace(old, new)
+
+
+def with_count(text):
+    """A certificate whose lines `value` and `policy` have the number of the lines behind them."""
+    lines = text.split("\n")
+    value, policy, end = (next(i for i, line in enumerate(lines) if line.startswith(word)) for word in ("value ", "policy ", "end"))
+    lines[value], lines[policy] = "value %d" % (policy - value - 1), "policy %d" % (end - policy - 1)
+    return "\n".join(lines)
 
 
 def marked(text):
@@ -133,3 +247,31 @@ def edits():
     yield "thirds", DIE.encode(), None, "sum of action mix, variable die at die=one is 0.999900000000", 6, ["0.0001 is missing", "0.333333333334"]
     for name, old, new in LAWFUL:
         yield name, changed(old, new).encode("utf-8"), None, None, 0, []
+
+
+def named(data):
+    """The certificate as one of version 2, of the model file with these bytes."""
+    return changed("spd result 1\n", "spd result 2\nmodel %s\n" % hashlib.sha256(data).hexdigest(), CERT).encode()
+
+
+def cert_edits():
+    """Yields for each mistake in a certificate of MACHINE: name, bytes, place or None, line on standard output, message, status, texts of a terminal."""
+    for name, old, new, words, shown in CERTS:
+        data, at = marked(changed(old, new, CERT))
+        yield name, data, at, "", "certificate refused at byte %d: %s" % (at, words), 10, shown
+    crlf = CERT.replace("\n", "\r\n").encode()
+    yield "ends of lines as elsewhere", crlf, 12, "", "certificate refused at byte 12: bad byte", 10, [ASCII]
+    yield "an empty certificate", b"", 0, "", "certificate refused at byte 0: end", 10, [CUT]
+    yield "a model file", MACHINE.encode(), 0, "", "certificate refused at byte 0: expected", 10, ["A certificate begins with the line"]
+    own = MACHINE.encode()
+    other = own + b"// another file\n"
+    digests = [hashlib.sha256(data).hexdigest() for data in (other, own)]
+    shown = ["below it that of model:", "\n    %s\n    %s\n" % tuple(digests), "Give the file that it is of."]
+    yield "of another model file", named(other), None, "", "certificate is of another model", 16, shown
+    yield "of another model file, and cut off", named(other)[:100], None, "", "certificate is of another model", 16, shown
+    shown = ["one step more lies further from the value than the residual", "with a larger residual the same value and policy may hold"]
+    for name, old, new, line in NO:
+        yield name, changed(old, new, CERT).encode(), None, line, "certificate does not hold", 11, shown
+    yield "its own model file", named(own), None, "yes", None, 0, []
+    for name, old, new in HOLDS:
+        yield name, with_count(changed(old, new, CERT)).encode(), None, "yes", None, 0, []

@@ -6,14 +6,16 @@
     run.py PROGRAM --show prints what a terminal shows of each
 
 Through a pipe a mistake has just the stated line. At a terminal that line comes first; behind it come the file's name with line and column, the line with
-a caret below the place, and a sentence that says what would mend it."""
+a caret below the place, and a sentence that says what would mend it. Mistakes in a model file are those of `solve`, and those in a certificate of `check`;
+`upgrade` has the same through a pipe."""
 import os, pty, re, subprocess, sys, tempfile, threading
 
 sys.dont_write_bytecode = True
 sys.path.insert(0, os.path.dirname(os.path.abspath(__file__)))
 import cases
 
-# Words of the command line: the words, the status, the message, and what a terminal shows. `model` is a lawful file, `folder` a folder.
+# Words of the command line: the words, the status, the message, and what a terminal shows. `model` is a lawful file, `cert` a certificate of it, `folder` a
+# folder.
 WORDS = [
     ([], 2, "usage: word 0", ["A command is missing", "try 'spudd --help'"]),
     (["sovle", "model"], 2, "usage: word 0", ["`sovle` is no command. Is `solve` meant?", "try 'spudd --help'"]),
@@ -26,6 +28,19 @@ WORDS = [
     (["solve", "model", "--nodes=1"], 2, "usage: word 2", ["16 to 8388608"]),
     (["plain", "model", "--nodes", "100"], 2, "usage: word 2", ["no option of `plain`"]),
     (["solve", "-m"], 2, "usage: word 1", ["A file whose name begins with `-` is given behind the word `--`"]),
+    (["check"], 2, "usage: word 1", ["A FILE is missing"]),
+    (["check", "model"], 2, "usage: word 2", ["A CERT is missing: the name of a certificate, or `-` for standard input."]),
+    (["upgrade", "--nodes=16", "model"], 2, "usage: word 3", ["A CERT is missing"]),
+    (["check", "model", "model"], 2, "usage: word 2", ["`model` stands twice: the model file and the certificate are two files."]),
+    (["upgrade", "-", "-"], 2, "usage: word 2", ["`-` stands twice"]),
+    (["check", "model", "cert", "more"], 2, "usage: word 3", ["`more` is one operand too many"]),
+    (["check", "model", ""], 2, "usage: word 2", ["The name of a file isn't empty."]),
+    (["check", "model", "cert", "--turns", "5"], 2, "usage: word 3", ["`--turns` is no option of `check`."]),
+    (["upgrade", "model", "cert", "--workers=2"], 2, "usage: word 3", ["`--workers` is no option of `upgrade`."]),
+    (["check", "model", "cert", "--nodes", "15"], 2, "usage: word 4", ["`15` is no value of `--nodes`, which takes 16 to 8388608"]),
+    (["check", "model", "cert", "--node=16"], 2, "usage: word 3", ["Is `--nodes` meant?"]),
+    (["chek", "model", "cert"], 2, "usage: word 0", ["`chek` is no command. Is `check` meant?"]),
+    (["evaluate", "model", "cert"], 2, "usage: word 0", ["`evaluate` can't be run yet."]),
     (["gen"], 2, "usage: word 1", ["N is missing: a number of machines from 2 to 63"]),
     (["ring", "64"], 2, "usage: word 1", ["`64` can't stand here: the one operand is a number of machines from 2 to 63"]),
     (["solve", "\x1b[31mred", "more"], 2, "usage: word 2", ["`more` is one operand too many"]),
@@ -35,6 +50,13 @@ WORDS = [
     (["solve", "model", "--turns", "3"], 8, "turn limit reached, residual 5.797413507", ["at most 0.005.", "--turns 70"]),
     (["solve", "model", "--nodes", "16"], 9, "node limit 16 passed in building", ["try --nodes 64"]),
     (["solve", "-"], 5, "refused at byte 0: expected variables", ["  standard input, line 1, column 1", "A file begins with its variables"]),
+    (["check", "model", "missing"], 3, "cannot open missing", ["There is no such file or folder."]),
+    (["check", "model", "folder"], 3, "cannot read folder", ["It is a folder."]),
+    (["check", "model", "/dev/zero"], 4, "/dev/zero is too long", ["A certificate has at most 268435456 bytes."]),
+    (["check", "/dev/zero", "cert"], 4, "/dev/zero is too long", ["A model file has at most 4194304 bytes."]),
+    (["check", "cert", "model"], 5, "refused at byte 0: expected variables", ["  cert, line 1, column 1", "A file begins with its variables"]),
+    (["check", "model", "-"], 10, "certificate refused at byte 0: end", ["  standard input, line 1, column 1", "The certificate is cut off here"]),
+    (["check", "model", "cert", "--nodes", "16"], 9, "node limit 16 passed in building", ["try --nodes 64"]),
 ]
 
 
@@ -53,6 +75,7 @@ class Program:
         self.folder = self.room.name
         os.mkdir(os.path.join(self.folder, "folder"))
         self.write("model", cases.MACHINE.encode())
+        self.write("cert", cases.CERT.encode())
 
     def write(self, name, data):
         with open(os.path.join(self.folder, name), "wb") as out:
@@ -105,8 +128,13 @@ class Report:
             self.wrong(case, what)
 
 
+def line_of(text):
+    """A line of a text, or nothing where there is no text."""
+    return text.encode() + b"\n" if text else b""
+
+
 def check_pipe(report, case, ran, status, message):
-    line = b"" if message is None else message.encode() + b"\n"
+    line = line_of(message)
     report.check(case, ran[0] == status, "status %d in place of %d through a pipe" % (ran[0], status))
     report.check(case, ran[2] == line, "%r in place of %r through a pipe" % (ran[2], line))
 
@@ -124,11 +152,11 @@ def check_terminal(report, case, ran, piped, message, shown):
         report.check(case, part in text, "the terminal doesn't show %r: %r" % (part, text))
 
 
-def check_place(report, case, text, data, at):
+def check_place(report, case, text, name, data, at):
     """The file's name with line and column, and a caret below the byte."""
     line, column = place_of(data, at)
     lines = text.split("\n")
-    report.check(case, "  model, line %d, column %d" % (line, column) in lines, "no line %d, column %d: %r" % (line, column, text))
+    report.check(case, "  %s, line %d, column %d" % (name, line, column) in lines, "no line %d, column %d: %r" % (line, column, text))
     carets = [i for i, shown in enumerate(lines) if shown.strip() == "^"]
     if len(carets) != 1:
         return report.wrong(case, "no caret: %r" % text)
@@ -172,35 +200,51 @@ def check_progress(program, report):
     report.check(case, piped[:2] == (status, output) and piped[2].count(b"\n") == 1, "another result through a pipe")
 
 
-def main(path, mode):
-    program, report = Program(path), Report()
+def run_case(program, report, mode, case, words, status, message, shown):
+    """Runs words through a pipe, and at a terminal too where that is asked for. Answers what the pipe got, and the text of the terminal or nothing."""
+    report.number += 1
+    piped = program.through_pipe(words)
+    check_pipe(report, case, piped, status, message)
+    if mode == "--pipe":
+        return piped, None
+    ran = program.at_terminal(words)
+    text = ran[2].decode("utf-8", "replace")
+    if mode == "--show":
+        print("== %s\n%s" % (case, text))
+        return piped, None
+    check_terminal(report, case, ran, piped, message, shown)
+    return piped, text
+
+
+def check_models(program, report, mode):
     for case, data, at, message, status, shown in cases.edits():
         program.write("model", data)
-        report.number += 1
-        piped = program.through_pipe(["solve", "model"])
-        check_pipe(report, case, piped, status, message)
-        if mode == "--pipe":
-            continue
-        ran = program.at_terminal(["solve", "model"])
-        if mode == "--show":
-            print("== %s\n%s" % (case, ran[2].decode("utf-8", "replace")))
-            continue
-        check_terminal(report, case, ran, piped, message, shown)
-        if at is not None:
-            check_place(report, case, ran[2].decode("utf-8", "replace"), data, at)
+        text = run_case(program, report, mode, case, ["solve", "model"], status, message, shown)[1]
+        if at is not None and text is not None:
+            check_place(report, case, text, "model", data, at)
     program.write("model", cases.MACHINE.encode())
+
+
+def check_certs(program, report, mode):
+    for name, data, at, line, message, status, shown in cases.cert_edits():
+        case = "certificate: " + name
+        program.write("cert", data)
+        piped, text = run_case(program, report, mode, case, ["check", "model", "cert"], status, message, shown)
+        report.check(case, piped[1] == line_of(line), "%r in place of %r on standard output" % (piped[1], line))
+        if at is not None and text is not None:
+            check_place(report, case, text, "cert", data, at)
+        if status > 0:
+            upgraded = program.through_pipe(["upgrade", "model", "cert"])
+            report.check(case, upgraded == piped, "`upgrade` ends with %r and `check` with %r" % (upgraded, piped))
+    program.write("cert", cases.CERT.encode())
+
+
+def main(path, mode):
+    program, report = Program(path), Report()
+    check_models(program, report, mode)
+    check_certs(program, report, mode)
     for words, status, message, shown in WORDS:
-        report.number += 1
-        case = " ".join(["spudd", *words])
-        piped = program.through_pipe(words)
-        check_pipe(report, case, piped, status, message)
-        if mode == "--pipe":
-            continue
-        ran = program.at_terminal(words)
-        if mode == "--show":
-            print("== %s\n%s" % (case, ran[2].decode("utf-8", "replace")))
-            continue
-        check_terminal(report, case, ran, piped, message, shown)
+        run_case(program, report, mode, " ".join(["spudd", *words]), words, status, message, shown)
     if mode == "":
         check_progress(program, report)
     print("done    %d mistakes" % report.number)

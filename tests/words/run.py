@@ -3,12 +3,12 @@
 
     run.py PROGRAM        prints each case that isn't as it has to be; exits 1 where there is one
 
-There is no file in the folder where the program runs. So lawful words of a command that can be run end with `cannot open NAME`. Those of a
-command that can't be run yet end with `usage: word 0`."""
+There is no file in the folder where the program runs, and standard input is empty. So lawful words of a command that can be run end with
+`cannot open NAME`, or, where the file is `-`, with the refusal of an empty file. Those of a command that can't be run yet end with `usage: word 0`."""
 import os, subprocess, sys, tempfile
 
 sys.dont_write_bytecode = True
-RUN = ("solve", "plain")
+RUN = ("solve", "plain", "check", "upgrade")
 
 # The number of the word that can't stand, and the words. '' is an empty word.
 USAGE = """
@@ -85,21 +85,60 @@ USAGE = """
 3 plain m --turns
 4 plain m --span 1 --span 1
 1 check
+1 check ''
+1 check -m c
 2 check m
+2 check -
 2 check - -
 2 check m m
 2 check m ''
+2 check m -c
+2 check m --cert c
+2 check --nodes=16
+3 check --nodes=16 m
+4 check --nodes 16 m
+3 check --nodes=16 m m
+4 check m --memo 5 m
+3 check -- m m
+3 check -- - -
+2 check --
+3 check m --nodes
+4 check m c --nodes
 3 check m c d
+4 check -- m c d
+4 check -- m c --nodes
 3 check m c --turns 5
+2 check m --turns=5 c
+1 check --turns=5 m c
 3 check m c --span 1
 3 check m c --workers 2
+3 check m c --steps 5
 4 check m c --nodes 5
+4 check m c --nodes 15
+3 check m c --nodes=8388609
+3 check m c --nodes=
 3 check m c --memo=0
+4 check m c --memo x
+5 check m c --nodes 16 --nodes 16
+4 check m c --memo=1 --memo=1
 1 upgrade
+1 upgrade -m c
 2 upgrade m
+2 upgrade -
+2 upgrade - -
 2 upgrade m m
+2 upgrade m ''
+3 upgrade --nodes=16 m
+3 upgrade -- m m
 3 upgrade m c d
 3 upgrade m c --turns 5
+3 upgrade m c --span 1
+3 upgrade m c --workers 2
+4 upgrade m c --nodes 15
+3 upgrade m c --nodes=8388609
+3 upgrade m c --memo=0
+5 upgrade m c --nodes 16 --nodes 16
+4 upgrade m c --memo
 1 gen
 1 gen 1
 1 gen 64
@@ -178,8 +217,23 @@ m plain --span 1 m
 m check m c
 - check - c
 m check m -
+m check m ./m
 m check m c --nodes 16 --memo 5
+m check m c --nodes=16 --memo=1
+m check m --nodes=16 --memo=1 c
+m check --nodes=16 --memo=1 m c
+m check --memo 8388608 m --nodes 8388608 c
+m check --nodes=16 -- m -c
+-m check -- -m m
+m upgrade m c
+- upgrade - c
+m upgrade m -
 m upgrade m c --memo 5
+m upgrade m c --nodes=16 --memo=1
+m upgrade m --nodes=16 --memo=1 c
+m upgrade --nodes=16 --memo=1 m c
+m upgrade m --nodes 8388608 c --memo 8388608
+-m upgrade -- -m --memo
 m horizon m
 m horizon m --steps 0
 m horizon m --steps 1000 --nodes 16 --memo 1
@@ -215,7 +269,12 @@ def cases():
         yield words, "usage: word " + place, 2
     for line in LAWFUL.strip().split("\n") + ["m ask m " + CLIENTS]:
         file, *words = line.split()
-        yield (words, "cannot open " + file, 3) if words[0] in RUN else (words, "usage: word 0", 2)
+        if words[0] not in RUN:
+            yield words, "usage: word 0", 2
+        elif file == "-":
+            yield words, "refused at byte 0: expected variables", 5
+        else:
+            yield words, "cannot open " + file, 3
     yield ("ask m " + CLIENTS + " q64").split(), "usage: word 130", 2
     yield ("ask m " + CLIENTS + " q64 a64").split(), "usage: word 130", 2
 
